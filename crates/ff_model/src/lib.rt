@@ -1,13 +1,17 @@
-// A library with one function.
+//! What a session is judged by: the calls and their replies, the history of a session, the image that it starts
+//! from, and the flat byte array that the replies are those of.
 #![tactic(auto)]
 
-ghost use Rattle.std.specs.Prelude.{◌≡◌};
-ghost use Rattle.ff_model.specs.Echo.{echo_of};
+mod flat;
+mod history;
+mod image;
+mod op;
+mod piece;
+#[cfg(test)]
+mod tests;
 
-// The `ensures` clause is the contract: what `echo` returns is `echo_of` of its argument, a definition
-// in `specs/Echo.antt`, which a caller's clause can cite too.
-pub fn echo(x: usize) -> usize
-    ensures { result ≡ echo_of x }
-{
-    x
-}
+pub use flat::flat_byte;
+pub use history::{Entry, History};
+pub use image::Image;
+pub use op::{Op, Reply};
+pub use piece::{PIECE_BYTES, Piece};

@@ -1,0 +1,6 @@
+use Rattle.std.proofs.Common.{◌≡◌, Option, List, ℕ, None}
+use Rattle.std.specs.Prelude.{replicate}
+use Rattle.ff_model.proofs.image.no_pages.Given as goal
+
+abbrev pub invariant-loop : goal.invariant-loop
+invariant-loop l = l.all.items ≡ replicate l.counter None
