@@ -1,0 +1,11 @@
+//! The text of a session: what was called, what was answered, one line each.
+#![tactic(auto)]
+
+mod line;
+mod report;
+mod session;
+#[cfg(test)]
+mod tests;
+
+pub use report::write_session;
+pub use session::Session;
