@@ -4,6 +4,7 @@ use Rattle.std.specs.List.{range_with_len}
 use Rattle.ff_base.specs.Count.{last_event}
 use Rattle.ff_model.specs.Image.{Content}
 use Rattle.ff_model.specs.Flat.{flat_byte_of, is_born, born_count}
+use Rattle.ff_model.specs.Spans.{is_in_range}
 use Rattle.ff_model.specs.declared.history.Entry.{Entry}
 use Rattle.ff_model.specs.declared.op.Op.{Op}
 use Rattle.ff_model.specs.declared.op.Op.TheVariants.{Load, Store, Verify, Mark, Release}
@@ -18,22 +19,6 @@ pub record Opening : Type 0 where
   pub capacity : ℕ
   pub event : ℕ
   pub faults : ℕ
-
--- a span of bytes is some bytes of one line of the pages
-abbrev pub is_span : ℕ → ℕ → ℕ → Bool
-is_span pages at len = nat_le 1 len && nat_le len 64 && nat_le (at % 64 + len) 64 && nat_le (at + len) (pages * 4096)
-
--- a range of lines is some lines of one of the pages
-abbrev pub is_line_range : ℕ → ℕ → ℕ → ℕ → Bool
-is_line_range pages page from count = nat_le (page + 1) pages && nat_le 1 count && nat_le (from + count) 64
-
--- the call is in range
-abbrev pub is_in_range : ℕ → Op → Bool
-is_in_range pages (Load at len) = is_span pages at len
-is_in_range pages (Store at bytes) = is_span pages at (length bytes)
-is_in_range pages Verify = true
-is_in_range pages (Mark page from count) = is_line_range pages page.0 from count
-is_in_range pages (Release page from count) = is_line_range pages page.0 from count
 
 -- the call is a store to a page that isn't born, behind entries after which as many are born as the flash can hold
 abbrev pub is_refused : Opening → List Entry → Op → Bool

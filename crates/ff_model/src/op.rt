@@ -1,7 +1,8 @@
-ghost use Rattle.std.specs.Prelude.{◌≡◌};
+ghost use Rattle.std.specs.Prelude.{◌≡◌, ◌<◌, ◌^◌};
+ghost use Rattle.ff_model.specs.Spans.{is_in_range, is_line_range, is_span};
 
 use crate::Piece;
-use ff_base::PageNo;
+use ff_base::{LINE_BYTES, PAGE_BYTES, PAGE_LINES, PageNo};
 
 /// A call of the simulated program. Addresses and lengths are in bytes.
 #[derive(Debug, Drop, PartialEq, Eq)]
@@ -19,6 +20,19 @@ pub enum Op {
 }
 
 impl Op {
+    /// Whether the call's bytes or lines lie in so many pages. A span of bytes lies in one line.
+    pub fn is_in_range(&self, pages: u32) -> bool
+        ensures { result ≡ is_in_range pages self.now }
+    {
+        match self {
+            Op::Load { at, len } => is_span_of(pages, *at, *len as usize),
+            Op::Store { at, bytes } => is_span_of(pages, *at, bytes.as_slice().len()),
+            Op::Verify => true,
+            Op::Mark { page, from, count } => are_lines_of(pages, *page, *from, *count),
+            Op::Release { page, from, count } => are_lines_of(pages, *page, *from, *count),
+        }
+    }
+
     /// An equal call. It takes no memory.
     pub fn copy(&self) -> Op
         ensures { result ≡ self.now }
@@ -42,6 +56,23 @@ impl Op {
             },
         }
     }
+}
+
+fn is_span_of(pages: u32, at: u32, len: usize) -> bool
+    requires { len < 2 ^ 32 }
+    ensures { result ≡ is_span pages at len }
+{
+    let at = at as usize;
+    1 <= len
+        && len <= LINE_BYTES
+        && at % LINE_BYTES + len <= LINE_BYTES
+        && at + len <= pages as usize * PAGE_BYTES
+}
+
+fn are_lines_of(pages: u32, page: PageNo, from: u32, count: u32) -> bool
+    ensures { result ≡ is_line_range pages page.0 from count }
+{
+    page.0 < pages && 1 <= count && u64::from(from) + u64::from(count) <= PAGE_LINES as u64
 }
 
 /// The answer to a call.

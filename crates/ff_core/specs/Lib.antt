@@ -1,0 +1,3 @@
+pub mod CoreFields
+pub mod CoreState
+pub mod Pages
