@@ -1,7 +1,4 @@
-ghost use Rattle.std.specs.Prelude.{◌≡◌, ◌<◌, ◌≤◌, ℕ, length, take, None, IfOk, OnOk, OnErr};
-ghost use Rattle.std.specs.Io.KnownBytes.{Appends, Consumes, IsAtEnd, Keeps};
-ghost use Rattle.ff_base.specs.Count.{Rose};
-ghost use Rattle.ff_io.specs.Known.{AppendsPrefix};
+ghost use Rattle.std.specs.Prelude.{◌≡◌, ◌≤◌, ℕ, length, None, IfOk, OnOk, OnErr};
 ghost use Rattle.ff_io.specs.Memory.{next_count};
 
 use crate::retries::{read_some, write_whole};
