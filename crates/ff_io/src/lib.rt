@@ -3,11 +3,14 @@
 #![tactic(auto)]
 
 mod host;
-mod memory;
-mod traits;
+mod memory_sink;
+mod memory_source;
+mod retries;
 #[cfg(test)]
 mod tests;
+mod traits;
 
 pub use host::{HostSink, HostSource};
-pub use memory::{MemorySink, MemorySource};
+pub use memory_sink::MemorySink;
+pub use memory_source::MemorySource;
 pub use traits::{Failed, Sink, Source};

@@ -1,0 +1,10 @@
+-- so many bytes of the piece are written
+use Rattle.std.proofs.Common.{◌-◌, ◌≤◌, length, take}
+use Rattle.std.specs.Io.KnownBytes.{Appends}
+use Rattle.ff_io.proofs.retries.write_whole.Given as goal
+
+abbrev pub invariant-loop-written : goal.invariant-loop-written
+invariant-loop-written g l = (l.written ≤ length l.piece) × Appends (g.W.Write.contents l.initial.output) (g.W.Write.contents l.output) (take l.written l.piece)
+
+abbrev pub decreases-loop-written : goal.decreases-loop-written
+decreases-loop-written g l = length l.piece - l.written
