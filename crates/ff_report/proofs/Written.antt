@@ -1,5 +1,5 @@
 -- What several writes, the last of which failed, leave of a text that is known.
-use Rattle.std.proofs.Common.{◌≡◌, ℕ, ◌+◌, ◌<◌, List, [], ◌∷◌, ◌++◌, Result, Ok, Err, length, take, drop, get_or, arith, ap, ◌∙◌, sym, append_assoc, OnErr}
+use Rattle.std.proofs.Common.{◌≡◌, ℕ, ◌+◌, ◌<◌, List, ◌∷◌, ◌++◌, Result, Ok, Err, length, take, drop, get_or, ap, ◌∙◌, sym, append_assoc, OnErr}
 use Rattle.std.specs.Prelude.{Option, flat_map}
 use Rattle.std.proofs.KnownBytes.{Appends-trans}
 use Rattle.std.proofs.lemmas.List.{drop_more, take-append-drop}

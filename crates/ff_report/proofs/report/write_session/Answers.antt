@@ -11,7 +11,7 @@ returns-in_err-write-clause-err g c =
     let line = session_line c.args.at in
     let lines = flat_map entry_line c.args.session.now.history.entries in
     on_err c.from_residual.result (AppendsPrefix-whole start start _ [] c.as_slice.result.now line (lines ++ codes "end\n") _
-      (Appends-nil start) c.in_err-write.ensures.err (c.as_slice.ensures ∙ c.session_line_of.ensures) (append_assoc line lines (codes "end\n")))
+    (Appends-nil start) c.in_err-write.ensures.err (c.as_slice.ensures ∙ c.session_line_of.ensures) (append_assoc line lines (codes "end\n")))
 
 pub returns-in_err-write_entries-clause-err : goal.returns-in_err-write_entries-clause-err
 returns-in_err-write_entries-clause-err g c =
@@ -20,9 +20,9 @@ returns-in_err-write_entries-clause-err g c =
     let line = session_line c.args.at in
     let lines = flat_map entry_line c.args.session.now.history.entries in
     on_err c.from_residual-in_err-write_entries.result (AppendsPrefix-whole start opened _
-      c.as_slice.result.now (flat_map entry_line c.as_slice-2.result.now) lines (codes "end\n") _
-      c.in_ok-write.ensures.ok c.in_err-write_entries.ensures.err (ap (flat_map entry_line) c.as_slice-2.ensures)
-      (append_assoc line lines (codes "end\n") ∙ ap (λ l. l ++ (lines ++ codes "end\n")) (sym (c.as_slice.ensures ∙ c.session_line_of.ensures))))
+    c.as_slice.result.now (flat_map entry_line c.as_slice-2.result.now) lines (codes "end\n") _
+    c.in_ok-write.ensures.ok c.in_err-write_entries.ensures.err (ap (flat_map entry_line) c.as_slice-2.ensures)
+    (append_assoc line lines (codes "end\n") ∙ ap (λ l. l ++ (lines ++ codes "end\n")) (sym (c.as_slice.ensures ∙ c.session_line_of.ensures))))
 
 pub returns-clause-err : goal.returns-clause-err
 returns-clause-err g c =
@@ -35,7 +35,7 @@ returns-clause-err g c =
     let second = flat_map entry_line c.as_slice-2.result.now in
     on_err_weaker c.write-2.result
     (λ failed. AppendsPrefix-whole start told _ (first ++ second) (codes "end\n") (codes "end\n") [] _
-      (Appends-trans start opened told first second c.in_ok-write.ensures.ok c.in_ok-write_entries.ensures.ok) failed refl
-      (ap (λ l. (l ++ lines) ++ codes "end\n") (sym (c.as_slice.ensures ∙ c.session_line_of.ensures))
-        ∙ ap (λ l. (first ++ flat_map entry_line l) ++ codes "end\n") (sym c.as_slice-2.ensures)))
+    (Appends-trans start opened told first second c.in_ok-write.ensures.ok c.in_ok-write_entries.ensures.ok) failed refl
+    (ap (λ l. (l ++ lines) ++ codes "end\n") (sym (c.as_slice.ensures ∙ c.session_line_of.ensures))
+    ∙ ap (λ l. (first ++ flat_map entry_line l) ++ codes "end\n") (sym c.as_slice-2.ensures)))
     c.write-2.ensures.err
