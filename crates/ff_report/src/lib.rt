@@ -4,6 +4,7 @@
 mod line;
 mod report;
 mod session;
+mod spelling;
 #[cfg(test)]
 mod tests;
 
