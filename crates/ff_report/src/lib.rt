@@ -8,5 +8,6 @@ mod spelling;
 #[cfg(test)]
 mod tests;
 
+pub use line::{LINE_ROOM, Line};
 pub use report::write_session;
 pub use session::Session;

@@ -1,0 +1,46 @@
+ghost use Rattle.std.specs.Prelude.{◌≡◌};
+ghost use Rattle.flatflash.specs.declared.refusal.Refusal.TheVariants as refusals;
+
+use ff_base::NoMemory;
+use std::alloc::{AllocError, AllocFailed};
+
+/// Why a run gives no session.
+#[derive(Clone, Copy, Debug, PartialEq, Eq)]
+pub enum Refusal {
+    /// Memory ran out. No contract says when that comes.
+    NoMemory,
+    /// The words aren't those of a command.
+    Usage,
+    /// A read of the source failed.
+    ReadFault,
+    /// The input is longer than `INPUT_LIMIT` bytes.
+    TooLong,
+    /// The first line of the input isn't `---`.
+    NoSeparator,
+    /// The number of the trace's first record that isn't one of the forms. The header is record 0.
+    BadRow(u32),
+}
+
+impl From<NoMemory> for Refusal {
+    ghost from_gives = { λ _ refusal. refusal ≡ refusals.NoMemory };
+
+    fn from(_: NoMemory) -> Self {
+        Refusal::NoMemory
+    }
+}
+
+impl From<AllocError> for Refusal {
+    ghost from_gives = { λ _ refusal. refusal ≡ refusals.NoMemory };
+
+    fn from(_: AllocError) -> Self {
+        Refusal::NoMemory
+    }
+}
+
+impl<T: Drop> From<AllocFailed<T>> for Refusal {
+    ghost from_gives = { λ _ refusal. refusal ≡ refusals.NoMemory };
+
+    fn from(_: AllocFailed<T>) -> Self {
+        Refusal::NoMemory
+    }
+}
