@@ -3,7 +3,8 @@ ghost use Rattle.std.specs.Prelude.{◌≤◌, length};
 use super::*;
 use ff_base::Caller;
 use ff_model::{Op, Piece};
-use std::alloc::Global;
+use std::alloc::{AllocError, Global};
+use std::test::Fail;
 
 fn load(at: u32, len: u32) -> Row {
     Row::Call {
@@ -108,4 +109,24 @@ fn the_first_bad_record_is_told(rt: HostRuntime) {
             Err(cause) => assert_eq!(rt; cause, BadTrace::Row(number), "at {text}"),
         }
     }
+}
+
+fn text_of_rows(alloc: Global, rows: u32) -> Result<String, AllocError> {
+    let mut text = String::new(alloc);
+    text.push_str("caller,op,a,b\n")?;
+    for _ in 0..rows {
+        text.push_str("0,load,4294967295,64\n")?;
+    }
+    Ok(text)
+}
+
+#[test]
+fn one_row_past_the_limit_is_bad(rt: HostRuntime) -> Result<(), Fail> {
+    let text = text_of_rows(rt.alloc(), 262_144)?;
+    let most = trace(rt.alloc(), text.as_str().as_bytes());
+    assert!(rt; most.is_ok_and(|rows| rows.len() == 262_144));
+    let text = text_of_rows(rt.alloc(), 262_145)?;
+    let past = trace(rt.alloc(), text.as_str().as_bytes());
+    assert!(rt; past.is_err_and(|cause| cause == BadTrace::Row(262_145)));
+    Ok(())
 }
