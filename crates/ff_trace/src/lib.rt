@@ -1,11 +1,11 @@
 //! The rows of a trace, read from CSV.
 #![tactic(auto)]
 
-
+mod fields;
 mod row;
-mod trace_rows;
 #[cfg(test)]
 mod tests;
+mod trace_rows;
 
 pub use row::Row;
 pub use trace_rows::{BadTrace, MAX_ROWS, trace};

@@ -1,7 +1,12 @@
-ghost use Rattle.std.specs.Prelude.{◌≡◌, IfOk, IfErr};
+ghost use Rattle.std.specs.Prelude.{◌≡◌, ◌++◌, ◌∷◌, [], IfOk, IfErr, OnOk};
+ghost use Rattle.csv.specs.Records.{fields_of};
+ghost use Rattle.ff_trace.specs.Reading.{HasRead, ReadsOne};
+ghost use Rattle.ff_trace.specs.declared.trace_rows.BadTrace.TheVariants as bad;
 ghost use Rattle.ff_trace.specs.Trace.{IsTrace, IsCauseOf};
 
 use crate::Row;
+use crate::row::{is_header, row_from};
+use csv::{ByteRecord, Reader, ReaderBuilder};
 use std::alloc::Global;
 
 /// The most rows of a trace, without the header.
@@ -20,5 +25,57 @@ pub fn trace(alloc: Global, bytes: &[u8]) -> Result<Vec<Row>, BadTrace>
     ensures rows { IfOk result (λ rows. IsTrace bytes.now rows.items) }
     ensures cause { IfErr result (IsCauseOf bytes.now) }
 {
-    Err(BadTrace::NoMemory)
+    let mut reader = reader(alloc, bytes);
+    let mut record = ByteRecord::new(alloc);
+    if !read(&mut reader, &mut record)? {
+        return Err(BadTrace::Row(0));
+    }
+    if !is_header(&record) {
+        return Err(BadTrace::Row(0));
+    }
+    let mut rows = Vec::new(alloc);
+    for number in 1..=MAX_ROWS {
+        if !read(&mut reader, &mut record)? {
+            return Ok(rows);
+        }
+        let Some(row) = row_from(&record) else {
+            return Err(BadTrace::Row(number));
+        };
+        push(&mut rows, row)?;
+    }
+    if read(&mut reader, &mut record)? {
+        return Err(BadTrace::Row(MAX_ROWS + 1));
+    }
+    Ok(rows)
+}
+
+fn reader(alloc: Global, bytes: &[u8]) -> Reader<&[u8]>
+    ensures { HasRead bytes.now [] result }
+{
+    ReaderBuilder::new()
+        .has_headers(false)
+        .flexible(true)
+        .from_reader(alloc, bytes)
+}
+
+/// The next record into `record`, and whether there was one.
+#[tactic(auto, using(crate::proofs::OneRead::one_read))]
+fn read(reader: &mut Reader<&[u8]>, record: &mut ByteRecord) -> Result<bool, BadTrace>
+    ensures reads { IfOk result (λ found. ReadsOne reader.old reader.new found (fields_of «record».new)) }
+    ensures cause { IfErr result (λ cause. cause ≡ bad.NoMemory) }
+{
+    let Ok(found) = reader.read_byte_record(record) else {
+        return Err(BadTrace::NoMemory);
+    };
+    Ok(found)
+}
+
+fn push(rows: &mut Vec<Row>, row: Row) -> Result<(), BadTrace>
+    ensures pushed { OnOk result (rows.new.items ≡ rows.old.items ++ row ∷ []) }
+    ensures cause { IfErr result (λ cause. cause ≡ bad.NoMemory) }
+{
+    match rows.push(row) {
+        Ok(()) => Ok(()),
+        Err(_) => Err(BadTrace::NoMemory),
+    }
 }

@@ -1,0 +1,4 @@
+pub mod Digits
+pub mod FourFields
+pub mod OneRead
+pub mod RowsRead

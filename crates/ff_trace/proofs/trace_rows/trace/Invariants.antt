@@ -1,0 +1,9 @@
+use Rattle.std.proofs.Common.{◌≡◌, ◌+◌, length}
+use Rattle.ff_trace.proofs.RowsRead.{HasRows}
+use Rattle.ff_trace.proofs.trace_rows.trace.Given as goal
+
+abbrev pub invariant-loop-number : goal.invariant-loop-number
+invariant-loop-number l = record {
+  rows : HasRows l.fn.bytes l.rows.items l.reader;
+  count : length l.rows.items + 1 ≡ l.number;
+}

@@ -1,0 +1,24 @@
+-- What a reader has read of a text, and what one more read does.
+use Rattle.std.specs.Prelude.{ℕ, ◌≡◌, Bool, List, [], ◌∷◌, ◌++◌, Some}
+use Rattle.std.specs.Bool.{MatchBool}
+use Rattle.std.specs.Borrow.{Bor}
+use Rattle.csv.specs.Reading.{Reached, Ready, default_config, source_of, strip_bom}
+use Rattle.csv.specs.declared.parser.State.TheVariants as st
+use Rattle.csv.specs.declared.reader.Reader.{Reader}
+use Rattle.csv.specs.declared.reader.Trim.TheVariants as trims
+use Rattle.ff_trace.specs.Trace.{HasRecords}
+
+-- a reader of a text has read these records of it, and the rest is left
+pub record HasRead (bytes : List ℕ) (records : List (List (List ℕ))) (reader : Reader (Bor (List ℕ))) : Type 0 where
+  pub trim : reader.trim ≡ trims.None
+  pub ready : Ready reader
+  pub config : reader.config ≡ default_config
+  pub rest : List ℕ
+  pub source : source_of (λ (s : Bor (List ℕ)). Some s.now) reader ≡ Some rest
+  pub reached : Reached default_config st.StartRecord (strip_bom bytes) records reader.state rest
+
+-- one more read of a reader gave a record of these fields, or found that the text has no more
+abbrev pub ReadsOne : Reader (Bor (List ℕ)) → Reader (Bor (List ℕ)) → Bool → List (List ℕ) → Type 0
+ReadsOne old new found fields =
+    (bytes : List ℕ) (records : List (List (List ℕ))) → HasRead bytes records old
+    → MatchBool found (HasRead bytes (records ++ fields ∷ []) new) (HasRecords bytes records)
