@@ -1,5 +1,5 @@
 -- What an image holds.
-use Rattle.std.specs.Prelude.{ℕ, ◌+◌, ◌*◌, ◌/◌, ◌%◌, List, Option, Some, None, unwrap_or, slice_get, slice_index, replicate}
+use Rattle.std.specs.Prelude.{ℕ, ◌/◌, ◌%◌, List, Option, Some, None, unwrap_or, slice_get, slice_index, replicate}
 use Rattle.ff_base.specs.Page.{line_of}
 
 -- for each page its bytes, where the image holds it, and for each page the mask of its marked lines

@@ -1,4 +1,4 @@
-ghost use Rattle.std.specs.Prelude.{◌≡◌, ◌++◌, ◌∷◌, [], IfOk, IfErr, OnOk};
+ghost use Rattle.std.specs.Prelude.{◌≡◌, ◌≤◌, ◌++◌, ◌∷◌, [], IfOk, IfErr, OnOk, vec_len};
 ghost use Rattle.csv.specs.Records.{fields_of};
 ghost use Rattle.ff_trace.specs.Reading.{HasRead, ReadsOne};
 ghost use Rattle.ff_trace.specs.declared.trace_rows.BadTrace.TheVariants as bad;
@@ -23,6 +23,7 @@ pub enum BadTrace {
 /// Reads the rows of a trace. `csv` says what a record is.
 pub fn trace(alloc: Global, bytes: &[u8]) -> Result<Vec<Row>, BadTrace>
     ensures rows { IfOk result (λ rows. IsTrace bytes.now rows.items) }
+    ensures few { IfOk result (λ rows. vec_len rows ≤ MAX_ROWS) }
     ensures cause { IfErr result (IsCauseOf bytes.now) }
 {
     let mut reader = reader(alloc, bytes);

@@ -1,1 +1,3 @@
+pub mod Driven
 pub mod Taken
+pub mod Told

@@ -1,7 +1,7 @@
 -- How a call of the program ends, by the words, the input and the faults, and what it tells.
 use Rattle.std.specs.Prelude.{ℕ, ◌+◌, ◌≡◌, ◌⊎◌, Bool, true, false, List, [], ◌∷◌, ◌++◌, length, map, codes, decimal, Option, None, Result, Ok, Err, ⊤}
 use Rattle.std.specs.List.{range_with_len}
-use Rattle.std.specs.Io.KnownBytes.{Appends, Keeps}
+use Rattle.std.specs.Io.KnownBytes.{Appends}
 use Rattle.ff_base.specs.Count.{Rose}
 use Rattle.ff_base.specs.Geometry.{default_geometry}
 use Rattle.ff_io.specs.Known.{AppendsPrefix}

@@ -1,4 +1,4 @@
-ghost use Rattle.std.specs.Prelude.{◌≡◌, ◌≤◌, ◌+◌, ◌++◌, ◌∷◌, [], true, length, map, vec_len, Ok, IfOk, IfErr};
+ghost use Rattle.std.specs.Prelude.{◌≡◌, ◌≤◌, ◌<◌, ◌+◌, ◌++◌, ◌∷◌, [], true, length, map, vec_len, Ok, IfOk, IfErr};
 ghost use Rattle.std.specs.List.{range_with_len};
 ghost use Rattle.std.specs.String.{string_bytes};
 ghost use Rattle.ff_base.specs.Geometry.{default_geometry};
@@ -9,7 +9,7 @@ ghost use Rattle.ff_trace.specs.Trace.{IsTrace};
 ghost use Rattle.flatflash.specs.Ending.{IsEnd, IsRefused, rows_of};
 ghost use Rattle.flatflash.specs.Input.{HasTrace, ReadsWhole};
 ghost use Rattle.flatflash.specs.Words.{is_schedule};
-ghost use Rattle.flatflash.specs.Runs.{RunsRows};
+ghost use Rattle.flatflash.specs.Runs.{RunsRows, after_row};
 
 use crate::input::{read_all, trace_bytes};
 use crate::refusal::Refusal;
@@ -87,8 +87,18 @@ fn drive_all(core: &mut Core, rows: &[Row])
 {
     let mut number = 0;
     for row in rows {
-        let Row::Call { caller, op } = row;
-        let _ = core.drive(*caller, number, op);
+        drive_row(core, number, row);
         number += 1;
+    }
+}
+
+fn drive_row(core: &mut Core, number: u32, row: &Row)
+    requires { 0 < core.old.spare_calls }
+    ensures { core.new ≡ after_row core.old number row.now }
+{
+    match row {
+        Row::Call { caller, op } => {
+            let _ = core.drive(*caller, number, op);
+        }
     }
 }

@@ -1,6 +1,6 @@
-use Rattle.std.proofs.Common.{◌≡◌, take}
+use Rattle.std.proofs.Common.{take}
 use Rattle.std.proofs.lemmas.List.{take_more}
-use Rattle.ff_model.specs.Flat.{latest, stored_byte}
+use Rattle.ff_model.specs.Flat.{stored_byte}
 use Rattle.ff_model.proofs.Appended.{latest-append}
 use Rattle.ff_model.proofs.flat.latest_byte.Goals as goal
 

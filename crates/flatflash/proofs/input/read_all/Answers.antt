@@ -1,7 +1,6 @@
-use Rattle.std.proofs.Common.{◌≡◌, ◌≤◌, ◌<◌, ◌++◌, ◌∙◌, length, take, refl, arith, length-append}
+use Rattle.std.proofs.Common.{◌<◌, ◌++◌, ◌∙◌, length, take, refl, arith, length-append}
 use Rattle.std.proofs.lemmas.List.{length-take}
 use Rattle.std.proofs.KnownBytes.{Consumes-kept, Consumes-trans}
-use Rattle.ff_base.specs.Count.{Rose}
 use Rattle.flatflash.proofs.Taken.{takes_from}
 use Rattle.flatflash.proofs.input.read_all.Goals as goal
 
