@@ -11,9 +11,9 @@ const FIRST_TEXT: &[u8] =
 
 const SINK_ROOM: usize = 4096;
 
-fn words(alloc: Global, all: &[&str]) -> Result<Vec<String>, AllocError> {
+fn words(alloc: Global, line: &str) -> Result<Vec<String>, AllocError> {
     let mut words = Vec::new(alloc);
-    for word in all {
+    for word in line.split_whitespace() {
         words.push(String::from_str(alloc, word)?)?;
     }
     Ok(words)
@@ -26,7 +26,7 @@ fn call(
     failing_read: u64,
     sink: &mut MemorySink,
 ) -> Result<Outcome, NoMemory> {
-    let words = words(alloc, &["flatflash", "schedule"])?;
+    let words = words(alloc, "flatflash schedule")?;
     let mut source = MemorySource::new(input.to_vec(alloc)?, vec![in alloc; failing_read]?);
     Ok(schedule(alloc, &words, &mut source, sink))
 }
@@ -80,14 +80,14 @@ fn inputs_give_their_status_and_text(rt: HostRuntime) -> Result<(), Fail> {
 #[test]
 fn other_words_are_refused(rt: HostRuntime) -> Result<(), Fail> {
     let alloc = rt.alloc();
-    for all in [
-        [].as_slice(),
-        ["flatflash"].as_slice(),
-        ["flatflash", "threads"].as_slice(),
-        ["flatflash", "schedule", "more"].as_slice(),
-        ["schedule", "flatflash"].as_slice(),
+    for line in [
+        "",
+        "flatflash",
+        "flatflash threads",
+        "flatflash schedule more",
+        "schedule flatflash",
     ] {
-        let words = words(alloc, all)?;
+        let words = words(alloc, line)?;
         let mut source = MemorySource::new(FIRST.to_vec(alloc)?, Vec::new(alloc));
         let mut sink = sink(alloc, 0)?;
         let outcome = schedule(alloc, &words, &mut source, &mut sink);
@@ -167,7 +167,7 @@ fn one_byte_past_the_limit_is_too_long(rt: HostRuntime) -> Result<(), Fail> {
         (67_108_864, b"trace: no separator\n".as_slice()),
         (67_108_865, b"trace: too long\n".as_slice()),
     ] {
-        let words = words(alloc, &["flatflash", "schedule"])?;
+        let words = words(alloc, "flatflash schedule")?;
         let mut source = MemorySource::new(dashes(alloc, count)?, Vec::new(alloc));
         let mut sink = sink(alloc, 0)?;
         let outcome = schedule(alloc, &words, &mut source, &mut sink);
