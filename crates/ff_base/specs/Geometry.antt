@@ -4,7 +4,7 @@ use Rattle.ff_base.specs.declared.geometry.Geometry.{Geometry}
 use Rattle.ff_base.specs.declared.limits.Limit.{Limit}
 use Rattle.ff_base.specs.declared.limits.LimitName.{LimitName}
 use Rattle.ff_base.specs.declared.limits.LimitName.TheVariants.{Blocks, PerBlock, Pages, Sets, Ways, Frames, Plb, Window, Low, FlashPages, CacheWays}
-use Rattle.ff_base.specs.declared.limits.TheConstants.{BLOCKS_LEAST, BLOCKS_GREATEST, PER_BLOCK_LEAST, PER_BLOCK_GREATEST, PAGES_LEAST, PAGES_GREATEST, SETS_LEAST, SETS_GREATEST, WAYS_LEAST, WAYS_GREATEST, FRAMES_LEAST, FRAMES_GREATEST, PLB_LEAST, PLB_GREATEST, WINDOW_LEAST, WINDOW_GREATEST, LOW_LEAST, LOW_GREATEST, FLASH_PAGES_LEAST, FLASH_PAGES_GREATEST, CACHE_WAYS_LEAST, CACHE_WAYS_GREATEST}
+use Rattle.ff_base.specs.declared.limits.TheConstants.{BLOCKS, PER_BLOCK, PAGES, SETS, WAYS, FRAMES, PLB, WINDOW, LOW, FLASH_PAGES, CACHE_WAYS}
 
 -- a number is within its bounds
 pub record IsWithin (value least greatest : ℕ) : Type 0 where
@@ -13,31 +13,31 @@ pub record IsWithin (value least greatest : ℕ) : Type 0 where
 
 -- every number of the geometry, and the products, are within their bounds
 pub record IsWithinLimits (g : Geometry) : Type 0 where
-  pub blocks : IsWithin g.blocks BLOCKS_LEAST BLOCKS_GREATEST
-  pub per_block : IsWithin g.per_block PER_BLOCK_LEAST PER_BLOCK_GREATEST
-  pub pages : IsWithin g.pages PAGES_LEAST PAGES_GREATEST
-  pub sets : IsWithin g.sets SETS_LEAST SETS_GREATEST
-  pub ways : IsWithin g.ways WAYS_LEAST WAYS_GREATEST
-  pub frames : IsWithin g.frames FRAMES_LEAST FRAMES_GREATEST
-  pub plb : IsWithin g.plb PLB_LEAST PLB_GREATEST
-  pub window : IsWithin g.window WINDOW_LEAST WINDOW_GREATEST
-  pub low : IsWithin g.low LOW_LEAST LOW_GREATEST
-  pub flash_pages : IsWithin (g.blocks * g.per_block) FLASH_PAGES_LEAST FLASH_PAGES_GREATEST
-  pub cache_ways : IsWithin (g.sets * g.ways) CACHE_WAYS_LEAST CACHE_WAYS_GREATEST
+  pub blocks : IsWithin g.blocks BLOCKS.least BLOCKS.greatest
+  pub per_block : IsWithin g.per_block PER_BLOCK.least PER_BLOCK.greatest
+  pub pages : IsWithin g.pages PAGES.least PAGES.greatest
+  pub sets : IsWithin g.sets SETS.least SETS.greatest
+  pub ways : IsWithin g.ways WAYS.least WAYS.greatest
+  pub frames : IsWithin g.frames FRAMES.least FRAMES.greatest
+  pub plb : IsWithin g.plb PLB.least PLB.greatest
+  pub window : IsWithin g.window WINDOW.least WINDOW.greatest
+  pub low : IsWithin g.low LOW.least LOW.greatest
+  pub flash_pages : IsWithin (g.blocks * g.per_block) FLASH_PAGES.least FLASH_PAGES.greatest
+  pub cache_ways : IsWithin (g.sets * g.ways) CACHE_WAYS.least CACHE_WAYS.greatest
 
 -- a number of the geometry, with its bounds
 abbrev pub limit_of : Geometry → LimitName → Limit
-limit_of g Blocks = record { name = Blocks; value = g.blocks; least = BLOCKS_LEAST; greatest = BLOCKS_GREATEST }
-limit_of g PerBlock = record { name = PerBlock; value = g.per_block; least = PER_BLOCK_LEAST; greatest = PER_BLOCK_GREATEST }
-limit_of g Pages = record { name = Pages; value = g.pages; least = PAGES_LEAST; greatest = PAGES_GREATEST }
-limit_of g Sets = record { name = Sets; value = g.sets; least = SETS_LEAST; greatest = SETS_GREATEST }
-limit_of g Ways = record { name = Ways; value = g.ways; least = WAYS_LEAST; greatest = WAYS_GREATEST }
-limit_of g Frames = record { name = Frames; value = g.frames; least = FRAMES_LEAST; greatest = FRAMES_GREATEST }
-limit_of g Plb = record { name = Plb; value = g.plb; least = PLB_LEAST; greatest = PLB_GREATEST }
-limit_of g Window = record { name = Window; value = g.window; least = WINDOW_LEAST; greatest = WINDOW_GREATEST }
-limit_of g Low = record { name = Low; value = g.low; least = LOW_LEAST; greatest = LOW_GREATEST }
-limit_of g FlashPages = record { name = FlashPages; value = g.blocks * g.per_block; least = FLASH_PAGES_LEAST; greatest = FLASH_PAGES_GREATEST }
-limit_of g CacheWays = record { name = CacheWays; value = g.sets * g.ways; least = CACHE_WAYS_LEAST; greatest = CACHE_WAYS_GREATEST }
+limit_of g Blocks = record { name = Blocks; value = g.blocks; least = BLOCKS.least; greatest = BLOCKS.greatest }
+limit_of g PerBlock = record { name = PerBlock; value = g.per_block; least = PER_BLOCK.least; greatest = PER_BLOCK.greatest }
+limit_of g Pages = record { name = Pages; value = g.pages; least = PAGES.least; greatest = PAGES.greatest }
+limit_of g Sets = record { name = Sets; value = g.sets; least = SETS.least; greatest = SETS.greatest }
+limit_of g Ways = record { name = Ways; value = g.ways; least = WAYS.least; greatest = WAYS.greatest }
+limit_of g Frames = record { name = Frames; value = g.frames; least = FRAMES.least; greatest = FRAMES.greatest }
+limit_of g Plb = record { name = Plb; value = g.plb; least = PLB.least; greatest = PLB.greatest }
+limit_of g Window = record { name = Window; value = g.window; least = WINDOW.least; greatest = WINDOW.greatest }
+limit_of g Low = record { name = Low; value = g.low; least = LOW.least; greatest = LOW.greatest }
+limit_of g FlashPages = record { name = FlashPages; value = g.blocks * g.per_block; least = FLASH_PAGES.least; greatest = FLASH_PAGES.greatest }
+limit_of g CacheWays = record { name = CacheWays; value = g.sets * g.ways; least = CACHE_WAYS.least; greatest = CACHE_WAYS.greatest }
 
 -- the number keeps its bounds
 abbrev pub Keeps : Limit → Type 0

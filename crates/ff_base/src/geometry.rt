@@ -2,10 +2,8 @@ ghost use Rattle.std.specs.Prelude.{◌≡◌, IsOk, IfOk, IfErr, OnOk, ◌↔�
 ghost use Rattle.ff_base.specs.Geometry.{IsFirstBroken, IsWithin, IsWithinLimits, Keeps, capacity_of, default_geometry};
 
 use crate::limits::{
-    BLOCKS_GREATEST, BLOCKS_LEAST, CACHE_WAYS_GREATEST, CACHE_WAYS_LEAST, FLASH_PAGES_GREATEST,
-    FLASH_PAGES_LEAST, FRAMES_GREATEST, FRAMES_LEAST, LOW_GREATEST, LOW_LEAST, Limit, LimitName,
-    PAGES_GREATEST, PAGES_LEAST, PER_BLOCK_GREATEST, PER_BLOCK_LEAST, PLB_GREATEST, PLB_LEAST,
-    SETS_GREATEST, SETS_LEAST, WAYS_GREATEST, WAYS_LEAST, WINDOW_GREATEST, WINDOW_LEAST,
+    BLOCKS, Bounds, CACHE_WAYS, FLASH_PAGES, FRAMES, LOW, Limit, LimitName, PAGES, PER_BLOCK, PLB,
+    SETS, WAYS, WINDOW,
 };
 
 /// The sizes of the simulated device and of the host memory before it.
@@ -38,49 +36,21 @@ impl Geometry {
         ensures ok { OnOk result (IsWithinLimits self.now) }
         ensures err { IfErr result (IsFirstBroken self.now) }
     {
-        within(
-            LimitName::Blocks,
-            self.blocks,
-            BLOCKS_LEAST,
-            BLOCKS_GREATEST,
-        )?;
-        within(
-            LimitName::PerBlock,
-            self.per_block,
-            PER_BLOCK_LEAST,
-            PER_BLOCK_GREATEST,
-        )?;
-        within(LimitName::Pages, self.pages, PAGES_LEAST, PAGES_GREATEST)?;
-        within(LimitName::Sets, self.sets, SETS_LEAST, SETS_GREATEST)?;
-        within(LimitName::Ways, self.ways, WAYS_LEAST, WAYS_GREATEST)?;
-        within(
-            LimitName::Frames,
-            self.frames,
-            FRAMES_LEAST,
-            FRAMES_GREATEST,
-        )?;
-        within(LimitName::Plb, self.plb, PLB_LEAST, PLB_GREATEST)?;
-        within(
-            LimitName::Window,
-            self.window,
-            WINDOW_LEAST,
-            WINDOW_GREATEST,
-        )?;
-        within(LimitName::Low, self.low, LOW_LEAST, LOW_GREATEST)?;
-        let flash_pages = self.blocks * self.per_block;
+        within(LimitName::Blocks, self.blocks, BLOCKS)?;
+        within(LimitName::PerBlock, self.per_block, PER_BLOCK)?;
+        within(LimitName::Pages, self.pages, PAGES)?;
+        within(LimitName::Sets, self.sets, SETS)?;
+        within(LimitName::Ways, self.ways, WAYS)?;
+        within(LimitName::Frames, self.frames, FRAMES)?;
+        within(LimitName::Plb, self.plb, PLB)?;
+        within(LimitName::Window, self.window, WINDOW)?;
+        within(LimitName::Low, self.low, LOW)?;
         within(
             LimitName::FlashPages,
-            flash_pages,
-            FLASH_PAGES_LEAST,
-            FLASH_PAGES_GREATEST,
+            self.blocks * self.per_block,
+            FLASH_PAGES,
         )?;
-        let cache_ways = self.sets * self.ways;
-        within(
-            LimitName::CacheWays,
-            cache_ways,
-            CACHE_WAYS_LEAST,
-            CACHE_WAYS_GREATEST,
-        )
+        within(LimitName::CacheWays, self.sets * self.ways, CACHE_WAYS)
     }
 
     /// How many logical pages the flash can hold and still be collected.
@@ -110,17 +80,17 @@ impl Default for Geometry {
     }
 }
 
-fn within(name: LimitName, value: u32, least: u32, greatest: u32) -> Result<(), Limit>
-    ensures ok { OnOk result (IsWithin value least greatest) }
-    ensures told { IfErr result (λ limit. limit ≡ record { name = name; value = value; least = least; greatest = greatest }) }
+fn within(name: LimitName, value: u32, bounds: Bounds) -> Result<(), Limit>
+    ensures ok { OnOk result (IsWithin value bounds.least bounds.greatest) }
+    ensures told { IfErr result (λ limit. limit ≡ record { name = name; value = value; least = bounds.least; greatest = bounds.greatest }) }
     ensures broken { IfErr result (λ limit. Keeps limit → ⊥) }
 {
-    if value < least || greatest < value {
+    if value < bounds.least || bounds.greatest < value {
         return Err(Limit {
             name,
             value,
-            least,
-            greatest,
+            least: bounds.least,
+            greatest: bounds.greatest,
         });
     }
     Ok(())

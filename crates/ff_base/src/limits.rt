@@ -25,46 +25,64 @@ pub struct Limit {
     pub greatest: u32,
 }
 
-pub const BLOCKS_LEAST: u32 = 3;
+/// The least and the greatest value that a number may have.
+#[derive(Clone, Copy, Debug, PartialEq, Eq)]
+pub struct Bounds {
+    pub least: u32,
+    pub greatest: u32,
+}
 
-pub const BLOCKS_GREATEST: u32 = 4096;
+pub const BLOCKS: Bounds = Bounds {
+    least: 3,
+    greatest: 4096,
+};
 
-pub const PER_BLOCK_LEAST: u32 = 2;
+pub const PER_BLOCK: Bounds = Bounds {
+    least: 2,
+    greatest: 256,
+};
 
-pub const PER_BLOCK_GREATEST: u32 = 256;
+pub const PAGES: Bounds = Bounds {
+    least: 1,
+    greatest: 65_536,
+};
 
-pub const PAGES_LEAST: u32 = 1;
+pub const SETS: Bounds = Bounds {
+    least: 1,
+    greatest: 4096,
+};
 
-pub const PAGES_GREATEST: u32 = 65_536;
+pub const WAYS: Bounds = Bounds {
+    least: 1,
+    greatest: 16,
+};
 
-pub const SETS_LEAST: u32 = 1;
+pub const FRAMES: Bounds = Bounds {
+    least: 0,
+    greatest: 4096,
+};
 
-pub const SETS_GREATEST: u32 = 4096;
+pub const PLB: Bounds = Bounds {
+    least: 1,
+    greatest: 64,
+};
 
-pub const WAYS_LEAST: u32 = 1;
+pub const WINDOW: Bounds = Bounds {
+    least: 1,
+    greatest: 64,
+};
 
-pub const WAYS_GREATEST: u32 = 16;
+pub const LOW: Bounds = Bounds {
+    least: 1,
+    greatest: 8,
+};
 
-pub const FRAMES_LEAST: u32 = 0;
+pub const FLASH_PAGES: Bounds = Bounds {
+    least: 6,
+    greatest: 16_384,
+};
 
-pub const FRAMES_GREATEST: u32 = 4096;
-
-pub const PLB_LEAST: u32 = 1;
-
-pub const PLB_GREATEST: u32 = 64;
-
-pub const WINDOW_LEAST: u32 = 1;
-
-pub const WINDOW_GREATEST: u32 = 64;
-
-pub const LOW_LEAST: u32 = 1;
-
-pub const LOW_GREATEST: u32 = 8;
-
-pub const FLASH_PAGES_LEAST: u32 = 6;
-
-pub const FLASH_PAGES_GREATEST: u32 = 16_384;
-
-pub const CACHE_WAYS_LEAST: u32 = 1;
-
-pub const CACHE_WAYS_GREATEST: u32 = 4096;
+pub const CACHE_WAYS: Bounds = Bounds {
+    least: 1,
+    greatest: 4096,
+};
