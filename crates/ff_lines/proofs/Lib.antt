@@ -1,0 +1,2 @@
+mod MaskBits
+pub mod Overlaid

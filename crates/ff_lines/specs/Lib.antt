@@ -1,0 +1,2 @@
+pub mod LineMask
+pub mod Overlay

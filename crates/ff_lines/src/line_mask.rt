@@ -1,0 +1,50 @@
+ghost use Rattle.std.specs.Prelude.{◌≡◌, ◌<◌, ◌==◌, ◌||◌, ◌&&◌, ℕ, not, IfSome, IsNone, IsTrue, ◌↔◌};
+ghost use Rattle.ff_lines.specs.LineMask.{has_line, IsLeastClear, IsFull};
+
+/// A set of a page's lines, in which bit i stands for line i.
+#[derive(Clone, Copy, Debug, PartialEq, Eq)]
+pub struct LineMask(pub u64);
+
+impl LineMask {
+    /// Puts a line into the set.
+    pub fn set(&mut self, line: u8)
+        requires { line < 64 }
+        ensures { (q : ℕ) → q < 64 → has_line self.new q ≡ ((q == line) || has_line self.old q) }
+    {
+        self.0 |= 1 << line;
+    }
+
+    /// Takes a line out of the set.
+    pub fn clear(&mut self, line: u8)
+        requires { line < 64 }
+        ensures { (q : ℕ) → q < 64 → has_line self.new q ≡ (not (q == line) && has_line self.old q) }
+    {
+        self.0 &= !(1 << line);
+    }
+
+    /// Whether a line is in the set.
+    pub fn has(&self, line: u8) -> bool
+        requires { line < 64 }
+        ensures { result ≡ has_line self.now line }
+    {
+        self.0 >> line & 1 == 1
+    }
+
+    /// The least line that isn't in the set.
+    pub fn first_clear(&self) -> Option<u8>
+        ensures least { IfSome result (IsLeastClear self.now) }
+        ensures full { IsNone result ↔ IsFull self.now }
+    {
+        if self.0 == u64::MAX {
+            return None;
+        }
+        Some(self.0.trailing_ones() as u8)
+    }
+
+    /// The lines that aren't in the set.
+    pub fn complement(&self) -> LineMask
+        ensures { (q : ℕ) → q < 64 → has_line result q ≡ not (has_line self.now q) }
+    {
+        LineMask(!self.0)
+    }
+}
