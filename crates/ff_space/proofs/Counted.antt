@@ -1,5 +1,5 @@
 -- How many blocks are erased.
-use Rattle.std.proofs.Common.{◌≡◌, ℕ, zero, suc, ◌+◌, false, List, [], ◌∷◌, length, cond, refl, arith}
+use Rattle.std.proofs.Common.{◌≡◌, suc, false, List, [], ◌∷◌, refl, arith}
 use Rattle.ff_space.specs.Blocks.{is_erased}
 use Rattle.ff_space.specs.Choices.{IsInState, IsNone}
 use Rattle.ff_space.specs.Tables.{erased_count}

@@ -1,5 +1,5 @@
 -- What a scan over the blocks has found so far.
-use Rattle.std.specs.Prelude.{ℕ, ◌<◌, ◌≤◌, ◌≡◌, List, length, Option, Some, None}
+use Rattle.std.specs.Prelude.{ℕ, ◌<◌, ◌≡◌, List, Option, Some, None}
 use Rattle.ff_base.specs.declared.numbers.Block.{Block}
 use Rattle.ff_space.specs.Choices.{IsInState, IsLeast, IsNone}
 use Rattle.ff_space.specs.Tables.{entry_at}

@@ -1,5 +1,5 @@
 -- What a contract sees of a block table, and what the table keeps.
-use Rattle.std.specs.Prelude.{ℕ, ◌<◌, ◌≡◌, List, length, replicate, count_by, slice_index_or, slice_set}
+use Rattle.std.specs.Prelude.{ℕ, ◌<◌, List, length, replicate, count_by, slice_index_or, slice_set}
 use Rattle.ff_base.specs.Geometry.{IsWithin}
 use Rattle.ff_base.specs.declared.geometry.Geometry.{Geometry}
 use Rattle.ff_base.specs.declared.limits.TheConstants.{BLOCKS_LEAST, BLOCKS_GREATEST, PER_BLOCK_LEAST, PER_BLOCK_GREATEST}

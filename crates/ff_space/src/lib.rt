@@ -5,5 +5,7 @@
 mod block;
 mod scans;
 mod table;
+#[cfg(test)]
+mod tests;
 
 pub use table::{BlockTable, Place};
