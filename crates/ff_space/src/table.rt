@@ -1,0 +1,223 @@
+ghost use Rattle.std.specs.Prelude.{◌≡◌, ◌≢◌, ◌<◌, ◌≤◌, IfOk, MatchOption, replicate, if◌then◌else◌};
+ghost use Rattle.ff_base.specs.Geometry.{IsWithinLimits};
+ghost use Rattle.ff_space.specs.Blocks.{CanAdvance, IsBlockSound, advanced, after_hold, block_placed, erased_block, mapped_less, mapped_more, taken_block, waiting};
+ghost use Rattle.ff_space.specs.declared.block.BlockState.TheVariants.{Erased, Held, Open, Waiting};
+
+use crate::block::{BlockEntry, BlockState};
+use crate::scans::{Target, fewest_mapped, least_in_state, open_or_erased};
+use ff_base::{Block, Geometry, NoMemory, Ppn};
+use std::alloc::Global;
+use std::marker::Model;
+
+/// Where the next page is programmed.
+#[derive(Clone, Copy, Debug, PartialEq, Eq)]
+pub enum Place {
+    /// The write place of an open block.
+    Free(Ppn),
+    /// No block is open: this erased block is to be taken first.
+    TakeErased(Block),
+    /// No block is open, and the last erased block is kept for the collector.
+    Nowhere,
+}
+
+/// The blocks of the flash: their states, write places and counts of mapped pages.
+#[derive(Drop)]
+pub struct BlockTable {
+    per_block: u32,
+    erased: u32,
+    blocks: Vec<BlockEntry>,
+}
+
+impl Model for BlockTable {
+    ghost use Rattle.ff_space.specs.Tables.{TableView};
+
+    ghost Value = { TableView };
+
+    ghost use Rattle.ff_space.specs.TableFields.{table_of, IsKept};
+
+    ghost view = { table_of };
+
+    ghost invariant = { IsKept };
+}
+
+/// So many erased blocks are kept for the collector.
+const KEPT_ERASED: u32 = 1;
+
+// So many erased blocks.
+fn erased_blocks(alloc: Global, count: u32) -> Result<Vec<BlockEntry>, NoMemory>
+    ensures { IfOk result (λ blocks. blocks.items ≡ replicate count erased_block) }
+{
+    let mut blocks = Vec::with_capacity(alloc, count as usize)?;
+    for _ in 0..count {
+        blocks.push(BlockEntry::erased())?;
+    }
+    Ok(blocks)
+}
+
+impl BlockTable {
+    ghost use Rattle.ff_space.specs.Choices.{IsAllMapped, IsFreePlace, IsInState, IsLeast, IsNone, IsPlace, IsVictim};
+    ghost use Rattle.ff_space.specs.Tables.{IsInRange, IsSound, block_at, erased_count, new_table, with_block};
+
+    /// A table of which every block is erased.
+    pub fn new(alloc: Global, geometry: &Geometry) -> Result<BlockTable, NoMemory>
+        requires { IsWithinLimits geometry.now }
+        ensures { IfOk result (λ table. table ≡ new_table geometry.now) }
+    {
+        let blocks = erased_blocks(alloc, geometry.blocks)?;
+        Ok(BlockTable {
+            per_block: geometry.per_block,
+            erased: geometry.blocks,
+            blocks,
+        })
+    }
+
+    /// What every table keeps, for a caller's proof. It does nothing.
+    pub fn known(&self)
+        ensures { IsSound self.now }
+    {
+        let _ = &self.blocks;
+    }
+
+    /// Where the next page is programmed.
+    #[tactic(auto, using(crate::proofs::Counted::count_of_none))]
+    pub fn place(&self) -> Place
+        ensures { IsPlace self.now result }
+    {
+        match open_or_erased(&self.blocks) {
+            Target::Open(block) => Place::Free(self.write_place(block)),
+            Target::Erased(block) if self.erased > KEPT_ERASED => Place::TakeErased(block),
+            Target::Erased(_) | Target::Neither => Place::Nowhere,
+        }
+    }
+
+    /// The block to collect: the full one with the fewest mapped pages, if one of its pages isn't mapped.
+    pub fn victim(&self) -> Option<Block>
+        ensures { MatchOption result (IsAllMapped self.now)
+            (λ block. IsVictim self.now.per_block self.now.blocks block.0) }
+    {
+        fewest_mapped(&self.blocks, self.per_block)
+    }
+
+    /// The least erased block.
+    pub fn least_erased(&self) -> Option<Block>
+        ensures { MatchOption result (IsNone (IsInState self.now.blocks Erased))
+            (λ block. IsLeast (IsInState self.now.blocks Erased) block.0) }
+    {
+        least_in_state(&self.blocks, BlockState::Erased)
+    }
+
+    /// How many blocks are erased.
+    pub fn erased(&self) -> u32
+        ensures { result ≡ erased_count self.now.blocks }
+    {
+        self.erased
+    }
+
+    /// Opens an erased block, at place 0.
+    pub fn take(&mut self, block: Block)
+        requires in_range { IsInRange self.old block.0 }
+        requires state { (block_at self.old block.0).state ≡ Erased }
+        ensures { self.new ≡ with_block self.old block.0 taken_block }
+    {
+        self.put(block, BlockEntry::taken(self.per_block));
+    }
+
+    /// Moves the write place on: a page was programmed there. An open block without a place left becomes full.
+    pub fn advance(&mut self, block: Block)
+        requires in_range { IsInRange self.old block.0 }
+        requires can { CanAdvance self.old.per_block (block_at self.old block.0) }
+        ensures { self.new ≡ with_block self.old block.0 (advanced self.old.per_block (block_at self.old block.0)) }
+    {
+        let entry = self.entry(block).advanced(self.per_block);
+        self.put(block, entry);
+    }
+
+    /// Makes an erased block the destination of a collection, or ends that.
+    pub fn hold(&mut self, block: Block, on: bool)
+        requires in_range { IsInRange self.old block.0 }
+        requires state { (block_at self.old block.0).state ≡ (if on then Erased else Held) }
+        ensures { self.new ≡ with_block self.old block.0 (after_hold self.old.per_block (block_at self.old block.0) on) }
+    {
+        let entry = self.entry(block).after_hold(self.per_block, on);
+        self.put(block, entry);
+    }
+
+    /// Counts one more mapped page of the block.
+    pub fn add_mapped(&mut self, block: Block)
+        requires in_range { IsInRange self.old block.0 }
+        requires used { (block_at self.old block.0).state ≢ Waiting }
+        requires room { (block_at self.old block.0).mapped < (block_at self.old block.0).next }
+        ensures { self.new ≡ with_block self.old block.0 (mapped_more (block_at self.old block.0)) }
+    {
+        let entry = self.entry(block).mapped_more();
+        self.put(block, entry);
+    }
+
+    /// Counts one mapped page of the block fewer.
+    pub fn drop_mapped(&mut self, block: Block)
+        requires in_range { IsInRange self.old block.0 }
+        requires mapped { 0 < (block_at self.old block.0).mapped }
+        ensures { self.new ≡ with_block self.old block.0 (mapped_less (block_at self.old block.0)) }
+    {
+        let entry = self.entry(block).mapped_less();
+        self.put(block, entry);
+    }
+
+    /// Lets a block without mapped pages wait for its erasing.
+    pub fn wait_erase(&mut self, block: Block)
+        requires in_range { IsInRange self.old block.0 }
+        requires unmapped { (block_at self.old block.0).mapped ≡ 0 }
+        ensures { self.new ≡ with_block self.old block.0 (waiting (block_at self.old block.0)) }
+    {
+        let entry = self.entry(block).waiting();
+        self.put(block, entry);
+    }
+
+    /// Records that a waiting block was erased.
+    pub fn set_erased(&mut self, block: Block)
+        requires in_range { IsInRange self.old block.0 }
+        requires state { (block_at self.old block.0).state ≡ Waiting }
+        ensures { self.new ≡ with_block self.old block.0 erased_block }
+    {
+        self.put(block, BlockEntry::erased());
+    }
+
+    /// Records the write place at which an erased block was found when the flash was scanned.
+    pub fn set_place(&mut self, block: Block, next: u32)
+        requires in_range { IsInRange self.old block.0 }
+        requires state { (block_at self.old block.0).state ≡ Erased }
+        requires next { next ≤ self.old.per_block }
+        ensures { self.new ≡ with_block self.old block.0 (block_placed self.old.per_block next) }
+    {
+        self.put(block, BlockEntry::placed(self.per_block, next));
+    }
+
+    // The page at the write place of a block.
+    fn write_place(&self, block: Block) -> Ppn
+        requires { IsLeast (IsInState self.now.blocks Open) block.0 }
+        ensures { IsFreePlace self.now result.0 }
+    {
+        let entry = self.entry(block);
+        Ppn(block.0 * self.per_block + entry.next)
+    }
+
+    fn entry(&self, block: Block) -> BlockEntry
+        requires { IsInRange self.now block.0 }
+        ensures entry { result ≡ block_at self.now block.0 }
+        ensures sound { IsBlockSound self.now.per_block result }
+    {
+        self.blocks[block.0 as usize]
+    }
+
+    // Replaces a block, and counts the erased ones anew.
+    fn put(&mut self, block: Block, entry: BlockEntry)
+        requires in_range { IsInRange self.old block.0 }
+        requires sound { IsBlockSound self.old.per_block entry }
+        ensures { self.new ≡ with_block self.old block.0 entry }
+    {
+        let at = block.0 as usize;
+        let before = self.blocks[at];
+        self.erased = self.erased + entry.state.erased() - before.state.erased();
+        self.blocks[at] = entry;
+    }
+}
