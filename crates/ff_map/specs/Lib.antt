@@ -1,0 +1,2 @@
+pub mod MapFields
+pub mod MapView
