@@ -3,12 +3,12 @@ use Rattle.std.proofs.Common.{◌≡◌, ◌≢◌, ℕ, ◌<◌, List, length, 
 use Rattle.std.specs.Prelude.{option_map}
 use Rattle.std.proofs.lemmas.Bool.{cases_eq, cases_lt}
 use Rattle.std.proofs.lemmas.Grind.{get_or-set_at}
-use Rattle.std.proofs.lemmas.List.{get_or-set_other, get_or_past, get_or-replicate, length-replicate}
+use Rattle.std.proofs.lemmas.List.{get_or-set_other, get_or_past}
 use Rattle.std.proofs.lemmas.Option.{same_Some, none-some}
 use Rattle.ff_base.specs.declared.numbers.PageNo.{PageNo}
 use Rattle.ff_base.specs.declared.numbers.Ppn.{Ppn}
-use Rattle.ff_map.specs.MapFields.{IsInverse, listed_owner, listed_place, released}
-use Rattle.ff_map.specs.MapView.{IsOneToOne, MapView}
+use Rattle.ff_map.specs.Owners.{IsInverse, listed_owner, listed_place, released}
+use Rattle.ff_map.specs.MapView.{IsOneToOne}
 use Rattle.ff_map.specs.declared.places.Mapping.{Mapping}
 
 same_page : (one other : PageNo) → one.0 ≡ other.0 → one ≡ other
@@ -44,22 +44,26 @@ length-released (Some old) owners = length-set owners old.at.0 None
 -- an owner that is left is another page
 owner_left : (pages : List (Option Mapping)) (owners : List (Option PageNo)) (page : PageNo) (old : Option Mapping) → IsInverse pages owners → get_or pages page.0 None ≡ old
     → (other : PageNo) (at : Ppn) → listed_owner (released old owners) at ≡ Some other → (listed_owner owners at ≡ Some other) × (other.0 ≢ page.0)
-owner_left pages owners page None inverse is other at left =
-    (left, λ same.
-    let there : get_or pages other.0 None ≡ None = ap (λ (n : ℕ). get_or pages n None) same ∙ is in
-    let place : listed_place pages other ≡ None = ap (λ (m : Option Mapping). option_map (λ (x : Mapping). x.at) m) there in
-    none-some at (sym place ∙ inverse.mapped other at left))
+owner_left pages owners page None inverse is other at left = (
+  left,
+  λ same.
+      let there : get_or pages other.0 None ≡ None = ap (λ (n : ℕ). get_or pages n None) same ∙ is in
+      let place : listed_place pages other ≡ None = ap (λ (m : Option Mapping). option_map (λ (x : Mapping). x.at) m) there in
+      none-some at (sym place ∙ inverse.mapped other at left),
+)
 owner_left pages owners page (Some old) inverse is other at left =
     let place : listed_place pages page ≡ Some old.at = place_there pages page old is in
     let within : old.at.0 < length owners = place_within pages owners inverse page old.at place in
     elim (cases_eq at.0 old.at.0) [
       | inl same ↦ absurd (none-some other (sym (get_or-set_at owners old.at.0 at.0 None None same within) ∙ left))
       | inr apart ↦
-          let owned : listed_owner owners at ≡ Some other = sym (get_or-set_other owners old.at.0 at.0 None None apart) ∙ left in
-          (owned, λ same.
-          let there : listed_place pages other ≡ Some old.at = place_there pages other old (ap (λ (n : ℕ). get_or pages n None) same ∙ is) in
-          let places : at ≡ old.at = same_Some at old.at (sym (inverse.mapped other at owned) ∙ there) in
-          apart (ap (λ (p : Ppn). p.0) places))
+          let owned : listed_owner owners at ≡ Some other = sym (get_or-set_other owners old.at.0 at.0 None None apart) ∙ left in (
+            owned,
+            λ same.
+                let there : listed_place pages other ≡ Some old.at = place_there pages other old (ap (λ (n : ℕ). get_or pages n None) same ∙ is) in
+                let places : at ≡ old.at = same_Some at old.at (sym (inverse.mapped other at owned) ∙ there) in
+                apart (ap (λ (p : Ppn). p.0) places),
+          )
     ]
 
 -- another page stays the owner of its place

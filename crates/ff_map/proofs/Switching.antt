@@ -1,14 +1,13 @@
 -- What moves leave of a map, one move after another.
-use Rattle.std.proofs.Common.{◌≡◌, ◌≢◌, ℕ, zero, suc, ◌+◌, ◌<◌, ◌≤◌, Bool, true, false, cond, eqb, List, [], ◌∷◌, ◌++◌, length, get_or, set, take, Option, None, Some, inl, inr, refl, sym, ap, ◌∙◌, arith, length-set}
+use Rattle.std.proofs.Common.{◌≡◌, ◌≢◌, ℕ, suc, ◌+◌, ◌<◌, false, eqb, List, [], ◌∷◌, ◌++◌, length, get_or, take, Option, None, Some, inl, inr, refl, sym, ap, ◌∙◌, arith}
 use Rattle.std.specs.Prelude.{option_map, All, AllPairs}
-use Rattle.std.proofs.lemmas.Bool.{cases_Bool, cases_eq, eqb-true, ne_eqb, eq-eqb, eqb-false}
-use Rattle.std.proofs.lemmas.Grind.{get_or-set_at}
-use Rattle.std.proofs.lemmas.List.{get_or-set_other, get_or-take, get_or_default, length-take-le, take_all, take_more}
+use Rattle.std.proofs.lemmas.Bool.{cases_Bool, eqb-true, ne_eqb}
+use Rattle.std.proofs.lemmas.List.{get_or-take, get_or_default, length-take-le, take_more}
 use Rattle.std.proofs.lemmas.List.Elements.{All-cons, All-nil}
 use Rattle.std.proofs.lemmas.Option.{same_Some}
 use Rattle.ff_base.specs.declared.numbers.PageNo.{PageNo}
 use Rattle.ff_base.specs.declared.numbers.Ppn.{Ppn}
-use Rattle.ff_map.specs.MapView.{MapView, mapping_of, place_of, IsFree, IsOwner, CanSwitch, IsSwitched, moved, moved_by}
+use Rattle.ff_map.specs.MapView.{MapView, mapping_of, IsFree, CanSwitch, IsSwitched, moved, moved_by}
 use Rattle.ff_map.specs.declared.places.Mapping.{Mapping}
 use Rattle.ff_map.specs.declared.places.Move.{Move}
 
@@ -61,9 +60,9 @@ more_switched moves i d before now after can within so_far last =
     let apart = earlier_apart (λ (m : Move). m.page.0) moves i d can.pages_apart within in
     rw (take_more moves i d within) record {
       mappings = λ page.
-      last.mappings page
-      ∙ ap (λ (m : Option Mapping). moved (one ∷ []) page m) (so_far.mappings page)
-      ∙ sym (moved-append (take i moves) one page (mapping_of before page) apart);
+          last.mappings page
+          ∙ ap (λ (m : Option Mapping). moved (one ∷ []) page m) (so_far.mappings page)
+          ∙ sym (moved-append (take i moves) one page (mapping_of before page) apart);
       pages = last.pages ∙ so_far.pages;
       places = last.places ∙ so_far.places;
       next_version = last.next_version ∙ so_far.next_version;

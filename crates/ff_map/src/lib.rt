@@ -2,6 +2,7 @@
 //! the version of each mapping.
 #![tactic(auto)]
 
+mod owners;
 mod page_map;
 mod places;
 #[cfg(test)]

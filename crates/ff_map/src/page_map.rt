@@ -1,7 +1,7 @@
-ghost use Rattle.std.specs.Prelude.{◌≡◌, ◌<◌, ◌+◌, ◌-◌, ◌^◌, ◌↔◌, ℕ, length, [], ◌∷◌, slice_set, slice_index_or, IfOk, Some};
-ghost use Rattle.std.specs.Option.{ForSome};
+ghost use Rattle.std.specs.Prelude.{◌≡◌, ◌<◌, ◌+◌, ◌-◌, ◌^◌, ◌↔◌, length, [], ◌∷◌, slice_set, IfOk, Some};
 ghost use Rattle.ff_base.specs.Geometry.{IsWithinLimits};
 
+use crate::owners::{owner_at, release};
 use crate::places::{Mapping, Move};
 use ff_base::{Geometry, NoMemory, PageNo, Ppn};
 use std::alloc::Global;
@@ -62,7 +62,7 @@ impl PageMap {
     pub fn owner(&self, at: Ppn) -> Option<PageNo>
         ensures { (page : PageNo) → (result ≡ Some page) ↔ IsOwner self.now at page }
     {
-        owner_in(&self.owners, at)
+        owner_at(&self.owners, at)
     }
 
     /// The version of a page's mapping.
@@ -135,24 +135,5 @@ impl PageMap {
                 self.set(one.page, one.to, mapping.version);
             }
         }
-    }
-}
-
-ghost use Rattle.ff_base.specs.declared.numbers.PageNo.{PageNo};
-ghost use Rattle.ff_map.specs.MapFields.{listed_owner, released};
-
-fn owner_in(owners: &[Option<PageNo>], at: Ppn) -> Option<PageNo>
-    ensures { result ≡ listed_owner owners.now at }
-{
-    owners.get(at.0 as usize).copied().flatten()
-}
-
-// Where a page was mapped, its old place is nobody's.
-fn release(owners: &mut [Option<PageNo>], old: Option<Mapping>)
-    requires { ForSome old (λ mapping. mapping.at.0 < length owners.old) }
-    ensures { owners.new ≡ released old owners.old }
-{
-    if let Some(mapping) = old {
-        owners[mapping.at.0 as usize] = None;
     }
 }

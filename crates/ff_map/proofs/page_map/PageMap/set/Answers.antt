@@ -1,4 +1,4 @@
-use Rattle.std.proofs.Common.{◌≡◌, get_or, length, None, sym, ◌∙◌, ap}
+use Rattle.std.proofs.Common.{length, None, sym, ◌∙◌, ap}
 use Rattle.std.proofs.lemmas.List.{get_or_read, take_at}
 use Rattle.ff_map.proofs.Inverse.{inverse_after, length-released, place_there, place_within}
 use Rattle.ff_map.proofs.page_map.PageMap.set.Goals as goal
