@@ -1,0 +1,6 @@
+use Rattle.std.proofs.Common.{take}
+use Rattle.ff_map.specs.MapView.{IsSwitched}
+use Rattle.ff_map.proofs.page_map.PageMap.switch.Given as goal
+
+abbrev pub invariant-loop-one : goal.invariant-loop-one
+invariant-loop-one l = IsSwitched (take l.one-index l.moves) l.fn.self l.self

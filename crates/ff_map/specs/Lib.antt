@@ -1,0 +1,3 @@
+pub mod MapFields
+pub mod MapView
+pub mod Owners
