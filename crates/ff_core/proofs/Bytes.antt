@@ -9,7 +9,9 @@ use Rattle.std.proofs.lemmas.Option.{slice_get-get_or, slice_get_past}
 use Rattle.ff_base.specs.Page.{line_of, with_line}
 use Rattle.ff_model.specs.Legal.{span_bytes}
 use Rattle.ff_model.specs.Spans.{is_span}
-use Rattle.ff_core.specs.Pages.{page_byte, overlaid}
+use Rattle.ff_lines.specs.Overlay.{overlaid}
+use Rattle.ff_lines.proofs.Overlaid.{byte-overlaid, length-overlaid}
+use Rattle.ff_core.specs.Pages.{page_byte}
 
 -- bytes that are those of a span, each at its address
 pub span_is : (byte : ℕ → ℕ) (xs : List ℕ) (at : ℕ) → ((i : ℕ) → i < length xs → get_or xs i 0 ≡ byte (at + i)) → xs ≡ map byte (range_with_len at (length xs))
@@ -21,39 +23,6 @@ span_is byte (x ∷ xs) at each =
     let there : at + suc i ≡ at + 1 + i = omega arith in
     each (suc i) (omega arith) ∙ ap byte there) in
     ap (λ (l : List ℕ). x ∷ l) rest ∙ ap (λ (b : ℕ). b ∷ map byte (range_with_len (at + 1) (length xs))) first
-
--- a byte of a list in which some bytes are replaced from a place on
-pub byte-overlaid : (xs : List ℕ) (from : ℕ) (ys : List ℕ) (i : ℕ) → from + length ys ≤ length xs
-    → get_or (overlaid xs from ys) i 0 ≡ unwrap_or (cond (nat_le from i) (slice_get ys (i - from)) None) (get_or xs i 0)
-byte-overlaid xs from ys i fits = elim (cases_lt i from) [
-  | inl before ↦
-      let test : nat_le from i ≡ false = grind (arith, nat_tests) in
-      let len : length (take from xs) ≡ from = omega (arith, length-take from xs) in
-      let inner : i < length (take from xs ++ ys) = omega (arith, length-append (take from xs) ys) in
-      let outer : i < length (take from xs) = omega arith in
-      rw test (get_or_append_left (take from xs ++ ys) (drop (from + length ys) xs) 0 i inner ∙ get_or_append_left (take from xs) ys 0 i outer ∙ get_or-take from xs i 0 before)
-  | inr from_on ↦ elim (cases_lt (i - from) (length ys)) [
-    | inl inside ↦
-        let test : nat_le from i ≡ true = le-leb from i from_on in
-        let len : length (take from xs) ≡ from = omega (arith, length-take from xs) in
-        let inner : i < length (take from xs ++ ys) = omega (arith, length-append (take from xs) ys) in
-        let found : slice_get ys (i - from) ≡ Some (get_or ys (i - from) 0) = slice_get-get_or ys (i - from) 0 inside in
-        rw (test, found) (get_or_append_left (take from xs ++ ys) (drop (from + length ys) xs) 0 i inner ∙ get_or-append_right (take from xs) ys from i 0 len from_on)
-    | inr after ↦
-        let test : nat_le from i ≡ true = le-leb from i from_on in
-        let len : length (take from xs ++ ys) ≡ from + length ys = omega (arith, length-append (take from xs) ys, length-take from xs) in
-        let past : slice_get ys (i - from) ≡ None = slice_get_past ys (i - from) after in
-        let same : from + length ys + (i - (from + length ys)) ≡ i = omega arith in
-        rw (test, past) (
-        get_or-append_right (take from xs ++ ys) (drop (from + length ys) xs) (from + length ys) i 0 len (omega arith)
-        ∙ get_or-drop (from + length ys) xs (i - (from + length ys)) 0
-        ∙ ap (λ (k : ℕ). get_or xs k 0) same)
-  ]
-]
-
-length-overlaid : (xs : List ℕ) (from : ℕ) (ys : List ℕ) → from + length ys ≤ length xs → length (overlaid xs from ys) ≡ length xs
-length-overlaid xs from ys fits =
-    omega (arith, length-append (take from xs ++ ys) (drop (from + length ys) xs), length-append (take from xs) ys, length-take from xs, length-drop (from + length ys) xs)
 
 -- a test that is moved by a number
 same_test : (from base o : ℕ) → base ≤ o → nat_le from (o - base) ≡ nat_le (base + from) o

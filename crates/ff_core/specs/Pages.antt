@@ -17,10 +17,6 @@ page_byte pages address = slice_index (slice_index_or pages (address / 4096) [])
 abbrev pub blank_pages : ℕ → List (List ℕ)
 blank_pages count = replicate count blank_page
 
--- the bytes of a line with some of them replaced, from a place on
-abbrev pub overlaid : List ℕ → ℕ → List ℕ → List ℕ
-overlaid line from bytes = take from line ++ bytes ++ drop (from + length bytes) line
-
 -- the bytes stand from an address on, and every other byte stays
 abbrev pub StoresBytes : List (List ℕ) → ℕ → List ℕ → List (List ℕ) → Type 0
 StoresBytes old at bytes new =

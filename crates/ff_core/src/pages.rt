@@ -1,11 +1,13 @@
 ghost use Rattle.std.specs.Prelude.{◌≡◌, ◌+◌, ◌*◌, ◌/◌, ◌%◌, ◌<◌, ◌≤◌, length, vec_len, IfOk, IsTrue, slice_index_or, [], drop, slice_range};
+ghost use Rattle.ff_lines.specs.Overlay.{overlaid};
 ghost use Rattle.ff_model.specs.Legal.{span_bytes};
 ghost use Rattle.ff_model.specs.Spans.{is_span};
 ghost use Rattle.ff_model.specs.declared.op.Op.TheVariants.{Store};
-ghost use Rattle.ff_core.specs.Pages.{StoresBytes, blank_pages, overlaid, page_byte};
+ghost use Rattle.ff_core.specs.Pages.{StoresBytes, blank_pages, page_byte};
 ghost use Rattle.ff_base.specs.Page.{line_of, with_line};
 
 use ff_base::{LINE_BYTES, NoMemory, PAGE_BYTES, PageBuf};
+use ff_lines::overlay;
 use ff_model::Piece;
 use std::alloc::Global;
 
@@ -25,7 +27,7 @@ pub fn make_blank(alloc: Global, count: u32) -> Result<Vec<PageBuf>, NoMemory>
 struct Place {
     page: usize,
     line: u8,
-    from: usize,
+    from: u8,
 }
 
 fn place_of(at: u32) -> Place
@@ -37,7 +39,7 @@ fn place_of(at: u32) -> Place
     Place {
         page: at / PAGE_BYTES,
         line: (at % PAGE_BYTES / LINE_BYTES) as u8,
-        from: at % LINE_BYTES,
+        from: (at % LINE_BYTES) as u8,
     }
 }
 
@@ -57,17 +59,15 @@ pub fn load(pages: &[PageBuf], at: u32, len: u32) -> Piece
     ensures { result ≡ span_bytes (page_byte pages.now) at len }
 {
     let place = place_of(at);
-    piece_of(&pages[place.page], place.line, place.from, len as usize)
+    piece_of(
+        &pages[place.page],
+        place.line,
+        place.from as usize,
+        len as usize,
+    )
 }
 
-fn overlay(line: &mut [u8; LINE_BYTES], from: usize, bytes: &[u8])
-    requires { from + length bytes.now ≤ 64 }
-    ensures { line.new ≡ overlaid line.old from bytes.now }
-{
-    line[from..from + bytes.len()].copy_from_slice(bytes);
-}
-
-fn store_in(page: &mut PageBuf, line: u8, from: usize, bytes: &[u8])
+fn store_in(page: &mut PageBuf, line: u8, from: u8, bytes: &Piece)
     requires line { line < 64 }
     requires len { from + length bytes.now ≤ 64 }
     ensures bytes { page.new ≡ with_line page.old line (overlaid (line_of page.old line) from bytes.now) }
@@ -84,10 +84,5 @@ pub fn store(pages: &mut [PageBuf], at: u32, bytes: &Piece)
     ensures { StoresBytes pages.old at bytes.now pages.new }
 {
     let place = place_of(at);
-    store_in(
-        &mut pages[place.page],
-        place.line,
-        place.from,
-        bytes.as_slice(),
-    );
+    store_in(&mut pages[place.page], place.line, place.from, bytes);
 }

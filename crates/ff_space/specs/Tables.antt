@@ -2,7 +2,7 @@
 use Rattle.std.specs.Prelude.{ℕ, ◌<◌, List, length, replicate, count_by, slice_index_or, slice_set}
 use Rattle.ff_base.specs.Geometry.{IsWithin}
 use Rattle.ff_base.specs.declared.geometry.Geometry.{Geometry}
-use Rattle.ff_base.specs.declared.limits.TheConstants.{BLOCKS_LEAST, BLOCKS_GREATEST, PER_BLOCK_LEAST, PER_BLOCK_GREATEST}
+use Rattle.ff_base.specs.declared.limits.TheConstants.{BLOCKS, PER_BLOCK}
 use Rattle.ff_space.specs.Blocks.{IsBlockSound, erased_block, is_erased, waiting}
 use Rattle.ff_space.specs.declared.block.BlockEntry.{BlockEntry}
 
@@ -37,6 +37,6 @@ new_table geometry = record { per_block = geometry.per_block; blocks = replicate
 
 -- what a table keeps: its sizes are those of a geometry, and every block is sound
 pub record IsSound (table : TableView) : Type 0 where
-  pub per_block : IsWithin table.per_block PER_BLOCK_LEAST PER_BLOCK_GREATEST
-  pub count : IsWithin (length table.blocks) BLOCKS_LEAST BLOCKS_GREATEST
+  pub per_block : IsWithin table.per_block PER_BLOCK.least PER_BLOCK.greatest
+  pub count : IsWithin (length table.blocks) BLOCKS.least BLOCKS.greatest
   pub each : (block : ℕ) → IsInRange table block → IsBlockSound table.per_block (block_at table block)
