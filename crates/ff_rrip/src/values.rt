@@ -1,0 +1,82 @@
+ghost use Rattle.std.specs.Prelude.{◌↔◌, IsNone, ◌≡◌, ◌<◌, ◌≤◌, ◌+◌, ◌∷◌, [], length, ℕ, slice_index, IfSome, IfNone, IsTrue};
+ghost use Rattle.ff_rrip.specs.Values.{IsKept, IsOldestBelow, IsVictim, NoneAllowed, has_bit, raised, raised_value};
+
+/// The greatest value: the way is expected last.
+pub const DISTANT: u8 = 3;
+
+/// The value of a way that was filled.
+pub const LONG: u8 = 2;
+
+/// The least value: the way is expected next.
+pub const NEAR: u8 = 0;
+
+fn is_allowed(allowed: u32, way: usize) -> bool
+    requires { way < 32 }
+    ensures { result ≡ has_bit allowed way }
+{
+    allowed >> way & 1 == 1
+}
+
+// The older one of the oldest way so far and the next way.
+fn older(values: &[u8], allowed: u32, found: Option<usize>, way: usize) -> Option<usize>
+    requires in_range { way < length values.now }
+    requires few { length values.now ≤ 32 }
+    requires so_far { IsOldestBelow values.now allowed way found }
+    ensures { IsOldestBelow values.now allowed (way + 1) result }
+{
+    if !is_allowed(allowed, way) {
+        return found;
+    }
+    match found {
+        Some(first) if values[way] <= values[first] => Some(first),
+        _ => Some(way),
+    }
+}
+
+// The least of the allowed ways that have the greatest value of them.
+fn oldest(values: &[u8], allowed: u32) -> Option<usize>
+    requires { length values.now ≤ 32 }
+    ensures { IsOldestBelow values.now allowed (length values.now) result }
+{
+    let mut found = None;
+    for way in 0..values.len() {
+        found = older(values, allowed, found, way);
+    }
+    found
+}
+
+fn raised_value(value: u8, allowed: u32, way: usize, by: u8) -> u8
+    requires few { way < 32 }
+    requires room { value + by < 256 }
+    ensures { result ≡ raised_value allowed by way value }
+{
+    if is_allowed(allowed, way) {
+        value + by
+    } else {
+        value
+    }
+}
+
+fn raise(values: &mut [u8], allowed: u32, by: u8)
+    requires values { IsKept values.old }
+    requires by { by ≤ 3 }
+    ensures { values.new ≡ raised allowed by values.old }
+{
+    for (way, value) in values.iter_mut().enumerate() {
+        *value = raised_value(*value, allowed, way, by);
+    }
+}
+
+/// Raises the allowed ways until one has the greatest value, and answers the least that has it.
+pub fn victim(values: &mut [u8], allowed: u32) -> Option<usize>
+    requires { IsKept values.old }
+    ensures found { IfSome result (IsVictim allowed values.old values.new) }
+    ensures none { IsNone result ↔ NoneAllowed values.old allowed }
+    ensures same { IfNone result (values.new ≡ values.old) }
+    ensures kept { IsKept values.new }
+{
+    let way = oldest(values, allowed)?;
+    let by = DISTANT - values[way];
+    raise(values, allowed, by);
+    Some(way)
+}
