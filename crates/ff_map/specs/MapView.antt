@@ -1,5 +1,5 @@
 -- What a contract sees of a map, and what a call changes of it.
-use Rattle.std.specs.Prelude.{ℕ, ◌*◌, ◌<◌, ◌≡◌, ◌≢◌, ◌==◌, if◌then◌else◌, List, [], ◌∷◌, length, replicate, slice_index_or, Option, None, Some, option_map, All, AllPairs}
+use Rattle.std.specs.Prelude.{ℕ, ◌*◌, ◌<◌, ◌≡◌, ◌≢◌, ◌==◌, if◌then◌else◌, List, [], ◌∷◌, length, replicate, slice_index_or, slice_set, Option, None, Some, option_map, All, AllPairs}
 use Rattle.ff_base.specs.declared.geometry.Geometry.{Geometry}
 use Rattle.ff_base.specs.declared.numbers.PageNo.{PageNo}
 use Rattle.ff_base.specs.declared.numbers.Ppn.{Ppn}
@@ -36,6 +36,10 @@ pub record IsOneToOne (map : MapView) : Type 0 where
 -- no page is mapped
 abbrev pub empty_map : Geometry → MapView
 empty_map geometry = record { pages = replicate geometry.pages None; places = geometry.blocks * geometry.per_block; next_version = 1 }
+
+-- the map after a page got this mapping; the rest is unchanged
+abbrev pub with_mapping : MapView → PageNo → Mapping → MapView
+with_mapping map page mapping = record map { pages = slice_set map.pages page.0 (Some mapping) }
 
 -- no page but this one is at the place
 abbrev pub IsFreeBut : MapView → Ppn → PageNo → Type 0

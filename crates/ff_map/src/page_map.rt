@@ -1,4 +1,4 @@
-ghost use Rattle.std.specs.Prelude.{◌≡◌, ◌<◌, ◌+◌, ◌-◌, ◌^◌, ◌↔◌, length, [], ◌∷◌, slice_set, IfOk, Some};
+ghost use Rattle.std.specs.Prelude.{◌≡◌, ◌<◌, ◌+◌, ◌-◌, ◌^◌, ◌↔◌, length, [], ◌∷◌, IfOk, Some};
 ghost use Rattle.ff_base.specs.Geometry.{IsWithinLimits};
 
 use crate::owners::{owner_at, release};
@@ -28,7 +28,7 @@ impl Model for PageMap {
 }
 
 impl PageMap {
-    ghost use Rattle.ff_map.specs.MapView.{mapping_of, place_of, version_of, IsOwner, IsOneToOne, IsFreeBut, CanSwitch, IsSwitched, empty_map};
+    ghost use Rattle.ff_map.specs.MapView.{mapping_of, place_of, version_of, IsOwner, IsOneToOne, IsFreeBut, CanSwitch, IsSwitched, empty_map, with_mapping};
 
     /// No page is mapped, and the next version is 1.
     pub fn new(alloc: Global, geometry: &Geometry) -> Result<PageMap, NoMemory>
@@ -77,7 +77,7 @@ impl PageMap {
         requires page { page.0 < length self.old.pages }
         requires place { at.0 < self.old.places }
         requires free { IsFreeBut self.old at page }
-        ensures { self.new ≡ record self.old { pages = slice_set self.old.pages page.0 (Some (record { at = at; version = version })) } }
+        ensures { self.new ≡ with_mapping self.old page (record { at = at; version = version }) }
     {
         let old = self.pages[page.0 as usize];
         release(&mut self.owners, old);
