@@ -1,5 +1,5 @@
 -- The bytes of a list of pages, by their addresses.
-use Rattle.std.specs.Prelude.{ℕ, ◌+◌, ◌*◌, ◌/◌, ◌%◌, ◌<◌, ◌≡◌, ◌==◌, not, if◌then◌else◌, List, [], ◌++◌, length, take, drop, replicate, slice_index, slice_index_or, slice_get, nat_le, ◌-◌, None, unwrap_or}
+use Rattle.std.specs.Prelude.{ℕ, ◌*◌, ◌/◌, ◌%◌, ◌<◌, ◌≡◌, ◌==◌, not, if◌then◌else◌, List, [], length, replicate, slice_index, slice_index_or, slice_get, nat_le, ◌-◌, None, unwrap_or}
 use Rattle.ff_base.specs.Count.{last_event}
 use Rattle.ff_base.specs.Page.{blank_page}
 use Rattle.ff_model.specs.Flat.{covering_byte, is_done}
