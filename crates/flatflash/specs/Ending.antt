@@ -58,6 +58,10 @@ pub record Writes : Type 0 where
   pub faults_before : ℕ
   pub faults_after : ℕ
 
+-- a sink, before and after, by the meanings of its type
+abbrev pub writes_of : {K : Type 0} → (K → Option (List ℕ)) → (K → ℕ) → K → K → Writes
+writes_of written faults old new = record { before = written old; after = written new; faults_before = faults old; faults_after = faults new }
+
 -- the texts of sessions, one after the other, the first of them with this number
 abbrev pub sessions_text : ℕ → List Session → List ℕ
 sessions_text at [] = []

@@ -12,6 +12,10 @@ pub record Reads : Type 0 where
   pub faults_before : ℕ
   pub faults_after : ℕ
 
+-- a source, before and after, by the meanings of its type
+abbrev pub reads_of : {S : Type 0} → (S → Option (List ℕ)) → (S → ℕ) → S → S → Reads
+reads_of left faults old new = record { before = left old; after = left new; faults_before = faults old; faults_after = faults new }
+
 -- nothing was read
 pub record Untouched (source : Reads) : Type 0 where
   pub bytes : Keeps source.before source.after

@@ -2,7 +2,7 @@ ghost use Rattle.std.specs.Prelude.{◌≡◌, ◌≤◌, ◌<◌, ◌+◌, ◌+
 ghost use Rattle.std.specs.Option.{option_copied};
 ghost use Rattle.std.specs.Io.KnownBytes.{Consumes, IsAtEnd, Keeps};
 ghost use Rattle.ff_base.specs.Count.{Rose};
-ghost use Rattle.flatflash.specs.Input.{ReadsWhole, trace_part};
+ghost use Rattle.flatflash.specs.Input.{ReadsWhole, reads_of, trace_part};
 ghost use Rattle.flatflash.specs.Ending.{IsRefused};
 
 use crate::refusal::Refusal;
@@ -16,8 +16,8 @@ const CHUNK_BYTES: usize = 1 << 16;
 
 /// Reads the whole input. Each read but the last gives a byte, so there are at most `INPUT_LIMIT + 1` of them.
 pub fn read_all<S: Source>(alloc: Global, source: &mut S) -> Result<Vec<u8>, Refusal>
-    ensures ok { IfOk result (λ bytes. ReadsWhole (record { before = S.left source.old; after = S.left source.new; faults_before = S.faults source.old; faults_after = S.faults source.new }) (λ input. input ≡ bytes.items)) }
-    ensures err { IfErr result (IsRefused true (record { before = S.left source.old; after = S.left source.new; faults_before = S.faults source.old; faults_after = S.faults source.new })) }
+    ensures ok { IfOk result (λ bytes. ReadsWhole (reads_of S.left S.faults source.old source.new) (λ input. input ≡ bytes.items)) }
+    ensures err { IfErr result (IsRefused true (reads_of S.left S.faults source.old source.new)) }
 {
     let mut chunk = make_chunk(alloc)?;
     let mut bytes = Vec::new(alloc);

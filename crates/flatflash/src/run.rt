@@ -7,7 +7,7 @@ ghost use Rattle.ff_model.specs.Image.{empty_content};
 ghost use Rattle.ff_model.specs.Legal.{IsLegal};
 ghost use Rattle.ff_trace.specs.Trace.{IsTrace};
 ghost use Rattle.flatflash.specs.Ending.{IsEnd, IsRefused, rows_of};
-ghost use Rattle.flatflash.specs.Input.{HasTrace, ReadsWhole};
+ghost use Rattle.flatflash.specs.Input.{HasTrace, ReadsWhole, reads_of};
 ghost use Rattle.flatflash.specs.Words.{is_schedule};
 ghost use Rattle.flatflash.specs.Runs.{RunsRows, after_row};
 
@@ -27,8 +27,8 @@ pub fn run<S: Source>(
     words: &[String],
     source: &mut S,
 ) -> Result<Vec<Session>, Refusal>
-    ensures ok { IfOk result (λ sessions. IsEnd (is_schedule (map string_bytes words.now)) (record { before = S.left source.old; after = S.left source.new; faults_before = S.faults source.old; faults_after = S.faults source.new }) (Ok sessions.items)) }
-    ensures err { IfErr result (IsRefused (is_schedule (map string_bytes words.now)) (record { before = S.left source.old; after = S.left source.new; faults_before = S.faults source.old; faults_after = S.faults source.new })) }
+    ensures ok { IfOk result (λ sessions. IsEnd (is_schedule (map string_bytes words.now)) (reads_of S.left S.faults source.old source.new) (Ok sessions.items)) }
+    ensures err { IfErr result (IsRefused (is_schedule (map string_bytes words.now)) (reads_of S.left S.faults source.old source.new)) }
 {
     if !asks_to_schedule(words) {
         return Err(Refusal::Usage);
@@ -42,10 +42,10 @@ pub fn run<S: Source>(
 
 /// Reads the rows of an input's trace.
 fn read_rows<S: Source>(alloc: Global, source: &mut S) -> Result<Vec<Row>, Refusal>
-    ensures ok { IfOk result (λ rows. ReadsWhole (record { before = S.left source.old; after = S.left source.new; faults_before = S.faults source.old; faults_after = S.faults source.new })
+    ensures ok { IfOk result (λ rows. ReadsWhole (reads_of S.left S.faults source.old source.new)
         (HasTrace (λ part. IsTrace part rows.items))) }
     ensures few { IfOk result (λ rows. vec_len rows ≤ MAX_ROWS) }
-    ensures err { IfErr result (IsRefused true (record { before = S.left source.old; after = S.left source.new; faults_before = S.faults source.old; faults_after = S.faults source.new })) }
+    ensures err { IfErr result (IsRefused true (reads_of S.left S.faults source.old source.new)) }
 {
     let input = read_all(alloc, source)?;
     let Some(part) = trace_bytes(&input) else {

@@ -1,6 +1,7 @@
 ghost use Rattle.std.specs.Prelude.{map};
 ghost use Rattle.std.specs.String.{string_bytes};
-ghost use Rattle.flatflash.specs.Ending.{EndsAndTells};
+ghost use Rattle.flatflash.specs.Ending.{EndsAndTells, writes_of};
+ghost use Rattle.flatflash.specs.Input.{reads_of};
 ghost use Rattle.flatflash.specs.Words.{is_schedule};
 
 use crate::run::run;
@@ -28,8 +29,8 @@ pub fn schedule<S: Source, K: Sink>(
     sink: &mut K,
 ) -> Outcome
     ensures { EndsAndTells (is_schedule (map string_bytes words.now))
-        (record { before = S.left source.old; after = S.left source.new; faults_before = S.faults source.old; faults_after = S.faults source.new })
-        (record { before = K.written sink.old; after = K.written sink.new; faults_before = K.faults sink.old; faults_after = K.faults sink.new })
+        (reads_of S.left S.faults source.old source.new)
+        (writes_of K.written K.faults sink.old sink.new)
         result.status result.sessions.items }
 {
     match run(alloc, words, source) {

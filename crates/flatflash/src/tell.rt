@@ -2,7 +2,7 @@ ghost use Rattle.std.specs.Prelude.{◌≡◌, ◌≤◌, ◌<◌, ◌^◌, ◌+
 ghost use Rattle.std.specs.Io.KnownBytes.{Appends};
 ghost use Rattle.ff_base.specs.Count.{Rose};
 ghost use Rattle.ff_io.specs.Known.{AppendsPrefix};
-ghost use Rattle.flatflash.specs.Ending.{Tells, refusal_status, refusal_text, sessions_text};
+ghost use Rattle.flatflash.specs.Ending.{Tells, refusal_status, refusal_text, sessions_text, writes_of};
 
 use crate::refusal::Refusal;
 use crate::schedule::Outcome;
@@ -12,7 +12,7 @@ use std::alloc::Global;
 
 /// Writes the text of a refusal, and answers its status. For want of memory nothing is written.
 pub fn tell_refusal<K: Sink>(alloc: Global, sink: &mut K, refusal: Refusal) -> Outcome
-    ensures { Tells (record { before = K.written sink.old; after = K.written sink.new; faults_before = K.faults sink.old; faults_after = K.faults sink.new }) (Err refusal) result.status result.sessions.items }
+    ensures { Tells (writes_of K.written K.faults sink.old sink.new) (Err refusal) result.status result.sessions.items }
 {
     let sessions = Vec::new(alloc);
     if refusal == Refusal::NoMemory {
@@ -31,7 +31,7 @@ pub fn tell_refusal<K: Sink>(alloc: Global, sink: &mut K, refusal: Refusal) -> O
 /// Writes the texts of the sessions, and answers with them.
 pub fn tell_sessions<K: Sink>(sink: &mut K, sessions: Vec<Session>) -> Outcome
     requires { vec_len sessions < 2 ^ 32 }
-    ensures { Tells (record { before = K.written sink.old; after = K.written sink.new; faults_before = K.faults sink.old; faults_after = K.faults sink.new }) (Ok sessions.items) result.status result.sessions.items }
+    ensures { Tells (writes_of K.written K.faults sink.old sink.new) (Ok sessions.items) result.status result.sessions.items }
 {
     let status = match write_sessions(sink, &sessions) {
         Ok(()) => 0,
