@@ -65,79 +65,84 @@ fn bounds_are_allowed(rt: HostRuntime) {
     }
 }
 
+// The numbers of a geometry, and the limit that they break first: its name, value and bounds.
+type Broken = ([u32; 9], LimitName, u32, u32, u32);
+
+const BROKEN: [Broken; 21] = [
+    ([2, 4, 16, 1, 4, 4, 2, 4, 1], LimitName::Blocks, 2, 3, 4096),
+    (
+        [4097, 4, 16, 1, 4, 4, 2, 4, 1],
+        LimitName::Blocks,
+        4097,
+        3,
+        4096,
+    ),
+    ([8, 1, 16, 1, 4, 4, 2, 4, 1], LimitName::PerBlock, 1, 2, 256),
+    (
+        [8, 257, 16, 1, 4, 4, 2, 4, 1],
+        LimitName::PerBlock,
+        257,
+        2,
+        256,
+    ),
+    ([8, 4, 0, 1, 4, 4, 2, 4, 1], LimitName::Pages, 0, 1, 65536),
+    (
+        [8, 4, 65537, 1, 4, 4, 2, 4, 1],
+        LimitName::Pages,
+        65537,
+        1,
+        65536,
+    ),
+    ([8, 4, 16, 0, 4, 4, 2, 4, 1], LimitName::Sets, 0, 1, 4096),
+    (
+        [8, 4, 16, 4097, 4, 4, 2, 4, 1],
+        LimitName::Sets,
+        4097,
+        1,
+        4096,
+    ),
+    ([8, 4, 16, 1, 0, 4, 2, 4, 1], LimitName::Ways, 0, 1, 16),
+    ([8, 4, 16, 1, 17, 4, 2, 4, 1], LimitName::Ways, 17, 1, 16),
+    (
+        [8, 4, 16, 1, 4, 4097, 2, 4, 1],
+        LimitName::Frames,
+        4097,
+        0,
+        4096,
+    ),
+    ([8, 4, 16, 1, 4, 4, 0, 4, 1], LimitName::Plb, 0, 1, 64),
+    ([8, 4, 16, 1, 4, 4, 65, 4, 1], LimitName::Plb, 65, 1, 64),
+    ([8, 4, 16, 1, 4, 4, 2, 0, 1], LimitName::Window, 0, 1, 64),
+    ([8, 4, 16, 1, 4, 4, 2, 65, 1], LimitName::Window, 65, 1, 64),
+    ([8, 4, 16, 1, 4, 4, 2, 4, 0], LimitName::Low, 0, 1, 8),
+    ([8, 4, 16, 1, 4, 4, 2, 4, 9], LimitName::Low, 9, 1, 8),
+    (
+        [4096, 256, 16, 1, 4, 4, 2, 4, 1],
+        LimitName::FlashPages,
+        1048576,
+        6,
+        16384,
+    ),
+    (
+        [8, 4, 16, 4096, 2, 4, 2, 4, 1],
+        LimitName::CacheWays,
+        8192,
+        1,
+        4096,
+    ),
+    ([8, 4, 16, 4096, 17, 4, 2, 4, 9], LimitName::Ways, 17, 1, 16),
+    (
+        [4096, 256, 16, 4096, 2, 4, 2, 4, 1],
+        LimitName::FlashPages,
+        1048576,
+        6,
+        16384,
+    ),
+];
+
 #[test]
 fn the_first_broken_bound_is_named(rt: HostRuntime) {
-    for (numbers, name, value, least, greatest) in [
-        ([2, 4, 16, 1, 4, 4, 2, 4, 1], LimitName::Blocks, 2, 3, 4096),
-        (
-            [4097, 4, 16, 1, 4, 4, 2, 4, 1],
-            LimitName::Blocks,
-            4097,
-            3,
-            4096,
-        ),
-        ([8, 1, 16, 1, 4, 4, 2, 4, 1], LimitName::PerBlock, 1, 2, 256),
-        (
-            [8, 257, 16, 1, 4, 4, 2, 4, 1],
-            LimitName::PerBlock,
-            257,
-            2,
-            256,
-        ),
-        ([8, 4, 0, 1, 4, 4, 2, 4, 1], LimitName::Pages, 0, 1, 65536),
-        (
-            [8, 4, 65537, 1, 4, 4, 2, 4, 1],
-            LimitName::Pages,
-            65537,
-            1,
-            65536,
-        ),
-        ([8, 4, 16, 0, 4, 4, 2, 4, 1], LimitName::Sets, 0, 1, 4096),
-        (
-            [8, 4, 16, 4097, 4, 4, 2, 4, 1],
-            LimitName::Sets,
-            4097,
-            1,
-            4096,
-        ),
-        ([8, 4, 16, 1, 0, 4, 2, 4, 1], LimitName::Ways, 0, 1, 16),
-        ([8, 4, 16, 1, 17, 4, 2, 4, 1], LimitName::Ways, 17, 1, 16),
-        (
-            [8, 4, 16, 1, 4, 4097, 2, 4, 1],
-            LimitName::Frames,
-            4097,
-            0,
-            4096,
-        ),
-        ([8, 4, 16, 1, 4, 4, 0, 4, 1], LimitName::Plb, 0, 1, 64),
-        ([8, 4, 16, 1, 4, 4, 65, 4, 1], LimitName::Plb, 65, 1, 64),
-        ([8, 4, 16, 1, 4, 4, 2, 0, 1], LimitName::Window, 0, 1, 64),
-        ([8, 4, 16, 1, 4, 4, 2, 65, 1], LimitName::Window, 65, 1, 64),
-        ([8, 4, 16, 1, 4, 4, 2, 4, 0], LimitName::Low, 0, 1, 8),
-        ([8, 4, 16, 1, 4, 4, 2, 4, 9], LimitName::Low, 9, 1, 8),
-        (
-            [4096, 256, 16, 1, 4, 4, 2, 4, 1],
-            LimitName::FlashPages,
-            1048576,
-            6,
-            16384,
-        ),
-        (
-            [8, 4, 16, 4096, 2, 4, 2, 4, 1],
-            LimitName::CacheWays,
-            8192,
-            1,
-            4096,
-        ),
-        ([8, 4, 16, 4096, 17, 4, 2, 4, 9], LimitName::Ways, 17, 1, 16),
-        (
-            [4096, 256, 16, 4096, 2, 4, 2, 4, 1],
-            LimitName::FlashPages,
-            1048576,
-            6,
-            16384,
-        ),
-    ] {
+    for (numbers, name, value, least, greatest) in BROKEN {
         let limit = Limit {
             name,
             value,

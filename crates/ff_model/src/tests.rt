@@ -95,77 +95,47 @@ fn copies_are_equal(rt: HostRuntime) {
     }
 }
 
+// A place, a length, and whether the span is in range of 16 pages.
+const SPANS: [(u32, u32, bool); 8] = [
+    (65535, 1, true),
+    (65536, 1, false),
+    (60, 4, true),
+    (60, 8, false),
+    (0, 0, false),
+    (64, 64, true),
+    (64, 65, false),
+    (4294967295, 1, false),
+];
+
+// A page, its first line, how many lines, and whether they are in range of 16 pages.
+const LINES: [(u32, u32, u32, bool); 6] = [
+    (15, 0, 64, true),
+    (15, 60, 5, false),
+    (15, 60, 0, false),
+    (15, 63, 1, true),
+    (16, 0, 1, false),
+    (15, 4294967295, 4294967295, false),
+];
+
 #[test]
 fn a_call_is_in_range_within_a_line_and_the_pages(rt: HostRuntime) {
-    let page = PageNo(15);
-    for (op, is_in_range) in [
-        (Op::Load { at: 65535, len: 1 }, true),
-        (Op::Load { at: 65536, len: 1 }, false),
-        (Op::Load { at: 60, len: 4 }, true),
-        (Op::Load { at: 60, len: 8 }, false),
-        (Op::Load { at: 0, len: 0 }, false),
-        (Op::Load { at: 64, len: 64 }, true),
-        (Op::Load { at: 64, len: 65 }, false),
-        (
-            Op::Load {
-                at: 4294967295,
-                len: 1,
-            },
-            false,
-        ),
-        (store(63, &[1]), true),
-        (store(63, &[1, 2]), false),
-        (store(63, &[]), false),
-        (Op::Verify, true),
-        (
-            Op::Mark {
-                page,
-                from: 0,
-                count: 64,
-            },
-            true,
-        ),
-        (
-            Op::Mark {
-                page,
-                from: 60,
-                count: 5,
-            },
-            false,
-        ),
-        (
-            Op::Mark {
-                page,
-                from: 60,
-                count: 0,
-            },
-            false,
-        ),
-        (
-            Op::Release {
-                page,
-                from: 63,
-                count: 1,
-            },
-            true,
-        ),
-        (
-            Op::Release {
-                page: PageNo(16),
-                from: 0,
-                count: 1,
-            },
-            false,
-        ),
-        (
-            Op::Release {
-                page,
-                from: 4294967295,
-                count: 4294967295,
-            },
-            false,
-        ),
-    ] {
-        assert_eq!(rt; op.is_in_range(16), is_in_range);
+    for (at, len, is_in_range) in SPANS {
+        assert_eq!(rt;
+            Op::Load { at, len }.is_in_range(16),
+            is_in_range,
+            "at {at}"
+        );
     }
+    for (page, from, count, is_in_range) in LINES {
+        let page = PageNo(page);
+        assert_eq!(rt; Op::Mark { page, from, count }.is_in_range(16), is_in_range);
+        assert_eq!(rt;
+            Op::Release { page, from, count }.is_in_range(16),
+            is_in_range
+        );
+    }
+    assert!(rt; Op::Verify.is_in_range(16));
+    assert!(rt; store(63, &[1]).is_in_range(16));
+    assert!(rt; !store(63, &[1, 2]).is_in_range(16));
+    assert!(rt; !store(63, &[]).is_in_range(16));
 }
