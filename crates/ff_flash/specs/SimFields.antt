@@ -1,0 +1,1 @@
+-- The simulated flash: how its fields show, and what it keeps.
