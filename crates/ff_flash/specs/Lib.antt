@@ -1,5 +1,9 @@
 pub mod Cells
+pub mod CourseFields
 pub mod FlashState
+pub mod Pages
 pub mod Plans
 pub mod SimFields
 pub mod Spares
+pub mod StoreFields
+pub mod Turns

@@ -2,7 +2,9 @@
 //! contract.
 #![tactic(auto)]
 
+mod course;
 mod flash;
+mod page_store;
 mod plan;
 mod spare;
 

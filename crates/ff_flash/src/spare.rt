@@ -1,4 +1,4 @@
-ghost use Rattle.std.specs.Prelude.{◌≡◌, ◌↔◌, Some, None, IfSome, IfNone, ◌⊎◌, slice_index, ◌∷◌, [], IsNone, slice_range};
+ghost use Rattle.std.specs.Prelude.{◌≡◌, ◌≢◌, ◌↔◌, ◌<◌, ◌^◌, IfSome, IsNone, replicate, slice_range};
 ghost use Rattle.ff_flash.specs.Spares.{spare_text};
 
 use ff_base::PageNo;
@@ -23,7 +23,7 @@ impl Spare {
     /// The spare that is written so, if one is: bytes 4 to 7 are zeros.
     pub fn from_bytes(bytes: &[u8; 16]) -> Option<Spare>
         ensures some { IfSome result (λ spare. bytes.now ≡ spare_text spare) }
-        ensures none { IsNone result ↔ (slice_range bytes.now 4 8 ≢ 0 ∷ 0 ∷ 0 ∷ 0 ∷ []) }
+        ensures none { IsNone result ↔ (slice_range bytes.now 4 8 ≢ replicate 4 0) }
     {
         let [a, b, c, d, 0, 0, 0, 0, e, f, g, h, i, j, k, l] = *bytes else {
             return None;
