@@ -1,2 +1,3 @@
 pub mod NextTurn
+pub mod PageSlots
 pub mod Rising

@@ -33,7 +33,7 @@ impl PageStore {
     pub fn new(alloc: Global, places: u32) -> Result<PageStore, NoMemory>
         ensures { IfOk result (λ pages. pages ≡ replicate places []) }
     {
-        let slots = vec![in alloc; None; places as usize]?;
+        let slots = no_slots(alloc, places)?;
         let bytes = Vec::with_capacity(alloc, PAGE_BYTES * places as usize)?;
         Ok(PageStore {
             slots,
@@ -82,6 +82,15 @@ impl PageStore {
             }
         }
     }
+}
+
+fn no_slots(alloc: Global, places: u32) -> Result<Vec<Option<u32>>, NoMemory>
+    ensures items { IfOk result (λ slots. slots.items ≡ replicate places None) }
+    ensures len { IfOk result (λ slots. vec_len slots ≡ places) }
+{
+    let mut slots = Vec::with_capacity(alloc, places as usize)?;
+    slots.resize(places as usize, None)?;
+    Ok(slots)
 }
 
 fn page_of(bytes: &[u8], slot: u32) -> &[u8]
