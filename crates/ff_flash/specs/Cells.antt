@@ -45,13 +45,9 @@ abbrev pub sealed_of : Cell → Cell
 sealed_of (closed bytes spare) = sealed bytes spare
 sealed_of cell = cell
 
--- a bit of a mask is 1
+-- a bit of a mask is 1. An operation that is cut is half done by a mask, of which it looks at the bits 0 to 31
 abbrev pub has_bit : ℕ → ℕ → Bool
 has_bit mask bit = mask / 2 ^ bit % 2 == 1
-
--- a mask of 32 bits, by which a cut operation is half done
-abbrev pub IsMask : ℕ → Type 0
-IsMask mask = mask < 2 ^ 32
 
 -- the cells after a program that was cut with a mask: the page is spoiled where bit 0 is 1, else as before
 abbrev pub cut_program : ℕ → List Cell → ℕ → List Cell
@@ -94,16 +90,16 @@ Reads old at before (Err _) after new = (after ≡ before) × (new ≡ old)
 abbrev pub Programs : List Cell → ℕ → List ℕ → Spare → Result (Unit {0}) FlashStop → List Cell → Type 0
 Programs old at bytes spare (Ok _) new = new ≡ slice_set old at (closed bytes spare)
 Programs old at bytes spare (Err Failed) new = new ≡ slice_set old at spoiled
-Programs old at bytes spare (Err Off) new = (mask : ℕ) × IsMask mask × (new ≡ cut_program mask old at)
+Programs old at bytes spare (Err Off) new = (mask : ℕ) × (new ≡ cut_program mask old at)
 
 -- a seal of a closed page
 abbrev pub Seals : List Cell → ℕ → Result (Unit {0}) FlashStop → List Cell → Type 0
 Seals old at (Ok _) new = new ≡ seal_at old at
 Seals old at (Err Failed) new = new ≡ old
-Seals old at (Err Off) new = (mask : ℕ) × IsMask mask × (new ≡ cut_seal mask old at)
+Seals old at (Err Off) new = (mask : ℕ) × (new ≡ cut_seal mask old at)
 
 -- an erase of a block
 abbrev pub Erases : ℕ → List Cell → ℕ → Result (Unit {0}) FlashStop → List Cell → Type 0
 Erases per_block old block (Ok _) new = ChangesEach (erased_cell per_block block) old new
 Erases per_block old block (Err Failed) new = new ≡ old
-Erases per_block old block (Err Off) new = (mask : ℕ) × IsMask mask × ChangesEach (cut_erased_cell mask per_block block) old new
+Erases per_block old block (Err Off) new = (mask : ℕ) × ChangesEach (cut_erased_cell mask per_block block) old new

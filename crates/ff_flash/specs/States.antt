@@ -1,5 +1,5 @@
 -- The states of pages, and the cells that they are with the pages' bytes.
-use Rattle.std.specs.Prelude.{ℕ, ◌%◌, ◌<◌, ◌≡◌, if◌then◌else◌, List, [], ◌∷◌, length, slice_index_or}
+use Rattle.std.specs.Prelude.{ℕ, ◌+◌, ◌-◌, ◌%◌, ◌<◌, ◌&&◌, nat_le, nat_lt, slice_set, ◌≡◌, if◌then◌else◌, List, [], ◌∷◌, length, slice_index_or}
 use Rattle.ff_flash.specs.Cells.{Cell, erased, spoiled, closed, sealed, has_bit}
 use Rattle.ff_flash.specs.declared.spare.Spare.{Spare}
 use Rattle.ff_flash.specs.declared.flash.Probe.{Probe}
@@ -56,6 +56,15 @@ abbrev pub erased_after : Turn → ℕ → PageState → PageState
 erased_after Works i state = Erased
 erased_after (CutOff cut) i state = if has_bit cut.mask (i % 32) then Spoiled else state
 erased_after _ i state = state
+
+-- the state at a place after an erase of a block whose first page and number of pages are given
+abbrev pub block_state : Turn → ℕ → ℕ → ℕ → PageState → PageState
+block_state turn first count place state = if nat_le first place && nat_lt place (first + count) then erased_after turn (place - first) state else state
+
+-- the bytes of all places after a program
+abbrev pub stored : Turn → List (List ℕ) → ℕ → List ℕ → List (List ℕ)
+stored Works pages place page = slice_set pages place page
+stored _ pages place page = pages
 
 -- each state becomes what the change makes of it at its place
 pub record EachState (change : ℕ → PageState → PageState) (old new : List PageState) : Type 0 where

@@ -1,6 +1,8 @@
 -- How operations go by a plan, one after another.
-use Rattle.std.specs.Prelude.{ℕ, ◌+◌, ◌≡◌, Bool, true, false, if◌then◌else◌, Option, Some, None, option_map}
+use Rattle.std.specs.Prelude.{ℕ, ◌+◌, ◌≡◌, Bool, true, false, if◌then◌else◌, Option, Some, None, option_map, Result, Ok, Err}
 use Rattle.ff_flash.specs.Plans.{Planned, IsPlan, is_listed, cut_at}
+use Rattle.ff_flash.specs.declared.flash.FlashStop.{FlashStop}
+use Rattle.ff_flash.specs.declared.flash.FlashStop.TheVariants.{Failed, Off}
 use Rattle.ff_flash.specs.declared.plan.CutAt.{CutAt}
 use Rattle.ff_flash.specs.declared.course.Power.{Power}
 use Rattle.ff_flash.specs.declared.course.Power.TheVariants.{On, Down, Cut}
@@ -36,6 +38,12 @@ due_turn plan number = if is_listed number plan.fail then Fails else cut_turn (c
 abbrev pub power_after : Turn → Power
 power_after (CutOff cut) = Cut cut.arrive
 power_after _ = On
+
+-- what an operation that goes so answers
+abbrev pub answer_of : Turn → Result (Unit {0}) FlashStop
+answer_of Works = Ok tt
+answer_of Fails = Err Failed
+answer_of _ = Err Off
 
 -- no operation was made, and the power is on
 abbrev pub fresh_course : Planned → CourseState

@@ -1,7 +1,7 @@
 // How far a flash has come in its plan, and whether its power is on.
 ghost use Rattle.std.specs.Prelude.{◌≡◌, ◌<◌, ◌≤◌, ◌^◌, ◌+◌, IfOk, IsTrue, length, if◌then◌else◌, is_some};
 ghost use Rattle.ff_flash.specs.Plans.{RisesFrom, cut_at, cut_numbers, is_listed, listed_count, planned_of, IsPlan};
-ghost use Rattle.ff_flash.specs.Turns.{arrive_of, due_turn, cut_turn, power_after, is_powered};
+ghost use Rattle.ff_flash.specs.Turns.{answer_of, arrive_of, due_turn, cut_turn, power_after, is_powered};
 
 use crate::{CutAt, FlashStop, Plan};
 use ff_base::NoMemory;
@@ -25,6 +25,19 @@ pub enum Turn {
     CutOff(CutAt),
     /// The power is off before it, so that it isn't one.
     Powerless,
+}
+
+impl Turn {
+    /// What an operation that goes so answers.
+    pub fn answer(self) -> Result<(), FlashStop>
+        ensures { result ≡ answer_of self }
+    {
+        match self {
+            Turn::Works => Ok(()),
+            Turn::Fails => Err(FlashStop::Failed),
+            Turn::CutOff(_) | Turn::Powerless => Err(FlashStop::Off),
+        }
+    }
 }
 
 /// A plan, the operations made so far, and the power.

@@ -6,8 +6,11 @@ mod course;
 mod flash;
 mod page_store;
 mod plan;
+mod sim_flash;
 mod spare;
+mod states;
 
 pub use flash::{Flash, FlashStop, Probe};
 pub use plan::{CutAt, Plan};
+pub use sim_flash::SimFlash;
 pub use spare::Spare;

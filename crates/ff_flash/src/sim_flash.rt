@@ -4,13 +4,14 @@ ghost use Rattle.ff_base.specs.Geometry.{IsWithinLimits};
 ghost use Rattle.ff_flash.specs.Cells.{Erases, IsClosed, IsSealed, Probes, Programs, Reads, Seals, cell_at, erased, cut_program, cut_seal, cut_erased_cell, ChangesEach};
 ghost use Rattle.ff_flash.specs.FlashState.{FlashState, Operates, powered_off, powered_up, stop_of};
 ghost use Rattle.ff_flash.specs.SimState.{CutsBy, IsSim, arrive_of_cut, fresh_flash};
+ghost use Rattle.ff_flash.specs.States.{stored};
 ghost use Rattle.ff_flash.specs.Plans.{IsPlan, planned_of};
 
 use crate::course::{Course, Turn};
 use crate::page_store::PageStore;
-use crate::states::{PageState, copied, cut_block, erase_block, erased_states, probe_of, program_state, seal_state};
+use crate::states::{PageState, copied, erase_at, erased_states, probe_of, program_at, seal_at};
 use crate::{Flash, FlashStop, Plan, Probe, Spare};
-use ff_base::{Block, Geometry, NoMemory, PageBuf, Ppn};
+use ff_base::{Block, Geometry, NoMemory, PAGE_BYTES, PageBuf, Ppn};
 use std::alloc::Global;
 use std::marker::Model;
 
@@ -116,10 +117,8 @@ impl Flash for SimFlash {
         ensures cut { CutsBy self.old (λ mask. self.new.cells ≡ cut_program mask self.old.cells at.0) }
     {
         let turn = self.course.next();
-        program_state(&mut self.states, at.0 as usize, turn, spare);
-        if let Turn::Works = turn {
-            self.pages.put(at.0, from.as_slice());
-        }
+        program_at(&mut self.states, at.0, turn, spare);
+        store(&mut self.pages, at.0, turn, from.as_slice());
         turn.answer()
     }
 
@@ -132,7 +131,7 @@ impl Flash for SimFlash {
         ensures cut { CutsBy self.old (λ mask. self.new.cells ≡ cut_seal mask self.old.cells at.0) }
     {
         let turn = self.course.next();
-        seal_state(&mut self.states, at.0 as usize, turn);
+        seal_at(&mut self.states, at.0, turn);
         turn.answer()
     }
 
@@ -144,7 +143,8 @@ impl Flash for SimFlash {
         ensures cut { CutsBy self.old (λ mask. ChangesEach (cut_erased_cell mask self.old.per_block block.0) self.old.cells self.new.cells) }
     {
         let turn = self.course.next();
-        erase_states(&mut self.states, self.per_block, block.0, turn);
+        let first = block.0 * self.per_block;
+        erase_at(&mut self.states, first, self.per_block, turn);
         turn.answer()
     }
 
@@ -170,5 +170,17 @@ impl Flash for SimFlash {
 
     fn operation_count(&self) -> u64 {
         self.course.operation_count()
+    }
+}
+
+// A page's bytes are kept where its program works.
+fn store(pages: &mut PageStore, at: u32, turn: Turn, page: &[u8])
+    requires place { at < length pages.old }
+    requires size { length page.now ≡ PAGE_BYTES }
+    ensures { pages.new ≡ stored turn pages.old at page.now }
+{
+    match turn {
+        Turn::Works => pages.put(at, page),
+        _ => {}
     }
 }

@@ -1,7 +1,7 @@
 // The states of pages, and what operations make of them.
-ghost use Rattle.std.specs.Prelude.{◌≡◌, ◌<◌, ◌≤◌, ◌+◌, ◌*◌, IfOk, length, replicate, slice_set, slice_index_or};
+ghost use Rattle.std.specs.Prelude.{◌≡◌, ◌<◌, ◌≤◌, ◌+◌, ◌*◌, IfOk, length, vec_len, replicate, slice_set, slice_index_or};
 ghost use Rattle.ff_flash.specs.Cells.{has_bit};
-ghost use Rattle.ff_flash.specs.States.{ErasesStates, probed, programmed, sealed_after};
+ghost use Rattle.ff_flash.specs.States.{EachState, block_state, erased_after, probed, programmed, sealed_after, sealed_state, state_at};
 
 use crate::course::Turn;
 use crate::{Probe, Spare};
@@ -44,8 +44,8 @@ pub fn probe_of(state: PageState) -> Probe
     }
 }
 
-/// The state of an erased page after a program.
-pub fn program_state(state: PageState, turn: Turn, spare: Spare) -> PageState
+// The state of an erased page after a program.
+fn program_state(state: PageState, turn: Turn, spare: Spare) -> PageState
     ensures { result ≡ programmed turn spare state }
 {
     match turn {
@@ -56,8 +56,8 @@ pub fn program_state(state: PageState, turn: Turn, spare: Spare) -> PageState
     }
 }
 
-/// The state of a closed page after a seal.
-pub fn seal_state(state: PageState, turn: Turn) -> PageState
+// The state of a closed page after a seal.
+fn seal_state(state: PageState, turn: Turn) -> PageState
     ensures { result ≡ sealed_after turn state }
 {
     match turn {
@@ -83,31 +83,45 @@ fn is_bit(mask: u32, bit: u32) -> bool
     (mask >> bit) % 2 == 1
 }
 
-/// The states of a block's pages after an erase of it.
-pub fn erase_states(pages: &mut [PageState], turn: Turn)
-    ensures { ErasesStates turn pages.old pages.new }
+// The state of page i of a block after an erase of the block.
+fn erase_state(state: PageState, turn: Turn, i: u32) -> PageState
+    ensures { result ≡ erased_after turn i state }
 {
     match turn {
-        Turn::Works => erase_all(pages),
-        Turn::CutOff(cut) => spoil(pages, cut.mask),
-        _ => {}
+        Turn::Works => PageState::Erased,
+        Turn::CutOff(cut) if is_bit(cut.mask, i % 32) => PageState::Spoiled,
+        _ => state,
     }
 }
 
-fn erase_all(pages: &mut [PageState])
-    ensures { EachIs (λ place state. PageState.Erased) pages.old pages.new }
+/// Programs an erased page, without its bytes.
+pub fn program_at(states: &mut Vec<PageState>, at: u32, turn: Turn, spare: Spare)
+    requires { at < vec_len states.old }
+    ensures items { states.new.items ≡ slice_set states.old.items at (programmed turn spare (state_at states.old.items at)) }
+    ensures len { vec_len states.new ≡ vec_len states.old }
 {
-    for page in pages.iter_mut() {
-        *page = PageState::Erased;
-    }
+    let place = at as usize;
+    states[place] = program_state(states[place], turn, spare);
 }
 
-fn spoil(pages: &mut [PageState], mask: u32)
-    ensures { EachIs (cut_state mask) pages.old pages.new }
+/// Seals a closed page.
+pub fn seal_at(states: &mut Vec<PageState>, at: u32, turn: Turn)
+    requires { at < vec_len states.old }
+    ensures items { states.new.items ≡ slice_set states.old.items at (sealed_after turn (state_at states.old.items at)) }
+    ensures len { vec_len states.new ≡ vec_len states.old }
 {
-    for (i, page) in pages.iter_mut().enumerate() {
-        if is_bit(mask, (i % 32) as u32) {
-            *page = PageState::Spoiled;
-        }
+    let place = at as usize;
+    states[place] = seal_state(states[place], turn);
+}
+
+/// Erases the pages of a block, of which the first and the number are given.
+pub fn erase_at(states: &mut Vec<PageState>, first: u32, count: u32, turn: Turn)
+    requires { first + count ≤ vec_len states.old }
+    ensures items { EachState (block_state turn first count) states.old.items states.new.items }
+    ensures len { vec_len states.new ≡ vec_len states.old }
+{
+    for i in 0..count {
+        let place = first as usize + i as usize;
+        states[place] = erase_state(states[place], turn, i);
     }
 }
