@@ -1,3 +1,5 @@
+pub mod CellLists
 pub mod NextTurn
+pub mod Operations
 pub mod PageSlots
 pub mod Rising

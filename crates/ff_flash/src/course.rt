@@ -1,6 +1,7 @@
 // How far a flash has come in its plan, and whether its power is on.
 ghost use Rattle.std.specs.Prelude.{◌≡◌, ◌<◌, ◌≤◌, ◌^◌, ◌+◌, IfOk, IsTrue, length, if◌then◌else◌, is_some};
 ghost use Rattle.ff_flash.specs.Plans.{RisesFrom, cut_at, cut_numbers, is_listed, listed_count, planned_of, IsPlan};
+ghost use Rattle.ff_flash.specs.FlashState.{stop_of};
 ghost use Rattle.ff_flash.specs.Turns.{answer_of, arrive_of, due_turn, cut_turn, power_after, is_powered};
 
 use crate::{CutAt, FlashStop, Plan};
@@ -28,6 +29,17 @@ pub enum Turn {
 }
 
 impl Turn {
+    /// How an operation that goes so stops, if it does.
+    pub fn stop(self) -> Option<FlashStop>
+        ensures { result ≡ stop_of (answer_of self) }
+    {
+        match self {
+            Turn::Works => None,
+            Turn::Fails => Some(FlashStop::Failed),
+            Turn::CutOff(_) | Turn::Powerless => Some(FlashStop::Off),
+        }
+    }
+
     /// What an operation that goes so answers.
     pub fn answer(self) -> Result<(), FlashStop>
         ensures { result ≡ answer_of self }

@@ -92,7 +92,10 @@ impl Flash for SimFlash {
         ensures cells { Probes self.old.cells at.0 result self.new.cells }
         ensures counts { Operates self.old (stop_of result) self.new }
     {
-        self.course.next().answer()?;
+        let turn = self.course.next();
+        if let Some(stop) = turn.stop() {
+            return Err(stop);
+        }
         Ok(probe_of(self.states[at.0 as usize]))
     }
 
@@ -103,7 +106,10 @@ impl Flash for SimFlash {
         ensures cells { Reads self.old.cells at.0 into.old result into.new self.new.cells }
         ensures counts { Operates self.old (stop_of result) self.new }
     {
-        self.course.next().answer()?;
+        let turn = self.course.next();
+        if let Some(stop) = turn.stop() {
+            return Err(stop);
+        }
         into.copy_from(self.pages.page(at.0));
         Ok(())
     }
