@@ -174,3 +174,13 @@ length-stored Works pages at page = length-set pages at page
 length-stored Fails pages at page = refl
 length-stored (CutOff cut) pages at page = refl
 length-stored Powerless pages at page = refl
+
+-- the cells of pages that were never programmed
+pub fresh_cells : (n : ℕ) → cells_of (replicate n Erased) (replicate n []) ≡ replicate n erased
+fresh_cells zero = refl
+fresh_cells (suc n) = ap (λ (cells : List Cell). erased ∷ cells) (fresh_cells n)
+
+pub full_fresh : (n place : ℕ) → IsFull (cell_at (replicate n erased) place)
+full_fresh zero place = tt
+full_fresh (suc n) zero = tt
+full_fresh (suc n) (suc place) = full_fresh n place

@@ -1,3 +1,4 @@
+pub mod BlockCells
 pub mod CellLists
 pub mod NextTurn
 pub mod Operations

@@ -4,6 +4,7 @@ use Rattle.std.specs.Prelude.{if◌then◌else◌, not, is_some, IfSome, replica
 use Rattle.std.proofs.lemmas.Bool.{cases_eq, cases_lt, cases_Bool}
 use Rattle.std.proofs.lemmas.Bool.Decides.{nat_tests}
 use Rattle.std.proofs.lemmas.List.{length-set, length-replicate, set-get_or, get_or_default, get_or_past, get_or-set_same, get_or-set_other}
+use Rattle.ff_flash.proofs.CellLists.{fresh_cells}
 use Rattle.ff_flash.proofs.NextTurn.{cut_by_turn}
 use Rattle.ff_flash.proofs.Rising.{count_next, count_within, none_passed}
 use Rattle.ff_flash.specs.Cells.{Cell, erased, spoiled, closed, sealed, cell_at, cut_program, cut_seal, seal_at, has_bit, sealed_of, erased_cell, cut_erased_cell, ChangesEach, Programs, Seals, Erases, IsClosed, IsSealed, bytes_of, probe_of}
@@ -180,3 +181,9 @@ sim_known blocks per_block cells course size kept full =
       making = refl;
       full = full;
     }
+
+-- a flash that was just made
+pub fresh_is : (blocks per_block n : ℕ) (plan : Planned) → IsPlan plan
+    → flash_of blocks per_block (cells_of (replicate n Erased) (replicate n [])) (record { plan = plan; operations = 0; power = On })
+      ≡ record { blocks = blocks; per_block = per_block; cells = replicate n erased; faults = 0; on = true; operations = 0; plan = Some plan; making = []; cut = false }
+fresh_is blocks per_block n plan is = rw (fresh_cells n, none_passed 0 1 plan.fail is.fail (omega arith)) refl

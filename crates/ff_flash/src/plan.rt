@@ -1,4 +1,4 @@
-ghost use Rattle.std.specs.Prelude.{◌≡◌, IfOk};
+ghost use Rattle.std.specs.Prelude.{◌≡◌, ◌↔◌, IfOk, IsTrue};
 ghost use Rattle.ff_flash.specs.Plans.{planned_of};
 
 use ff_base::NoMemory;
@@ -16,7 +16,7 @@ pub struct CutAt {
 }
 
 /// At which operations a simulated flash fails, and at which the power is cut.
-#[derive(Debug, Drop, PartialEq, Eq)]
+#[derive(Debug, Drop)]
 pub struct Plan {
     pub fail: Vec<u64>,
     pub cuts: Vec<CutAt>,
@@ -33,4 +33,23 @@ impl Plan {
         cuts.extend_from_slice(&self.cuts)?;
         Ok(Plan { fail, cuts })
     }
+
+    /// Whether the lists are equal.
+    pub(crate) fn is(&self, other: &Plan) -> bool
+        ensures { IsTrue result ↔ (planned_of self.now ≡ planned_of other.now) }
+    {
+        same_numbers(&self.fail, &other.fail) && same_cuts(&self.cuts, &other.cuts)
+    }
+}
+
+fn same_numbers(numbers: &[u64], others: &[u64]) -> bool
+    ensures { IsTrue result ↔ (numbers.now ≡ others.now) }
+{
+    numbers == others
+}
+
+fn same_cuts(cuts: &[CutAt], others: &[CutAt]) -> bool
+    ensures { IsTrue result ↔ (cuts.now ≡ others.now) }
+{
+    cuts == others
 }

@@ -79,7 +79,7 @@ impl SimFlash {
     pub fn plan_is(&self, plan: &Plan) -> bool
         ensures { IsTrue result ↔ (self.now.plan ≡ Some (planned_of plan.now)) }
     {
-        self.course.plan() == plan
+        self.course.plan().is(plan)
     }
 }
 

@@ -18,7 +18,8 @@ pub enum PageState {
 }
 
 pub fn erased_states(alloc: Global, places: u32) -> Result<Vec<PageState>, NoMemory>
-    ensures { IfOk result (λ states. states.items ≡ replicate places PageState.Erased) }
+    ensures items { IfOk result (λ states. states.items ≡ replicate places PageState.Erased) }
+    ensures len { IfOk result (λ states. vec_len states ≡ places) }
 {
     let mut states = Vec::with_capacity(alloc, places as usize)?;
     states.resize(places as usize, PageState::Erased)?;
