@@ -1,5 +1,5 @@
 -- The cells of a block that is erased.
-use Rattle.std.proofs.Common.{◌≡◌, ◌≢◌, ◌≤◌, ◌<◌, ◌+◌, ◌-◌, ◌*◌, ◌/◌, ◌%◌, ◌^◌, inl, inr, ℕ, zero, suc, Bool, true, false, List, [], ◌∷◌, length, get_or, Err, refl, sym, ap, subst, ◌∙◌, arith}
+use Rattle.std.proofs.Common.{◌≡◌, ◌≤◌, ◌<◌, ◌+◌, ◌-◌, ◌*◌, ◌/◌, ◌%◌, ◌^◌, inl, inr, ℕ, Bool, true, false, List, [], length, get_or, refl, sym, ap, subst, ◌∙◌, arith}
 use Rattle.std.specs.Prelude.{if◌then◌else◌, nat_le, nat_lt, ◌&&◌, ◌==◌}
 use Rattle.std.proofs.Math.Nat.{div-add-mod, mod-lt, mul-le-mul_left, mul_comm, zero-div}
 use Rattle.std.proofs.lemmas.Bool.{cases_eq, cases_lt, cases_Bool}
@@ -12,7 +12,6 @@ use Rattle.ff_flash.specs.States.{EachState, block_state, cell_of, cells_of, era
 use Rattle.ff_flash.specs.Turns.{answer_of}
 use Rattle.ff_flash.specs.declared.course.Turn.{Turn}
 use Rattle.ff_flash.specs.declared.course.Turn.TheVariants.{Works, Fails, CutOff, Powerless}
-use Rattle.ff_flash.specs.declared.flash.FlashStop.TheVariants.{Off}
 use Rattle.ff_flash.specs.declared.plan.CutAt.{CutAt}
 use Rattle.ff_flash.specs.declared.states.PageState.{PageState}
 use Rattle.ff_flash.specs.declared.states.PageState.TheVariants.{Erased, Spoiled}
@@ -149,11 +148,13 @@ erases_by Works n block old new pages some size each =
 erases_by Fails n block old new pages some size each = ap (λ (states : List PageState). cells_of states pages) (states_stay Fails (block * n) n old new (λ i state. refl) each)
 erases_by (CutOff cut) n block old new pages some size each = (cut.mask, cut_erases cut n block old new pages some size each)
 erases_by Powerless n block old new pages some size each =
-    let same = ap (λ (states : List PageState). cells_of states pages) (states_stay Powerless (block * n) n old new (λ i state. refl) each) in
-    (0, record {
-      size = ap length same;
-      each = λ place within. ap (λ (cells : List Cell). cell_at cells place) same ∙ sym (spoils_none n block place (cell_at (cells_of old pages) place));
-    })
+    let same = ap (λ (states : List PageState). cells_of states pages) (states_stay Powerless (block * n) n old new (λ i state. refl) each) in (
+      0,
+      record {
+        size = ap length same;
+        each = λ place within. ap (λ (cells : List Cell). cell_at cells place) same ∙ sym (spoils_none n block place (cell_at (cells_of old pages) place));
+      },
+    )
 
 pub erases_off : (turn : Turn) (first n : ℕ) (old new : List PageState) (pages : List (List ℕ)) → turn ≡ Powerless → EachState (block_state turn first n) old new → cells_of new pages ≡ cells_of old pages
 erases_off turn first n old new pages off each =

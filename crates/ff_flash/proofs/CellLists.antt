@@ -1,16 +1,14 @@
 -- Cells as the states of pages with their bytes.
-use Rattle.std.proofs.Common.{◌≡◌, ◌≢◌, ◌≤◌, ◌<◌, ◌+◌, ◌-◌, ◌*◌, ◌/◌, ◌%◌, inl, inr, ℕ, zero, suc, Bool, true, false, List, [], ◌∷◌, length, get_or, set, refl, sym, ap, ◌∙◌, arith}
-use Rattle.std.specs.Prelude.{if◌then◌else◌, replicate, nat_le, nat_lt, ◌&&◌, ◌==◌}
-use Rattle.std.proofs.lemmas.Bool.{cases_eq, cases_lt, cases_Bool}
-use Rattle.std.proofs.lemmas.Bool.Decides.{nat_tests}
+use Rattle.std.proofs.Common.{◌≡◌, ◌<◌, inl, inr, ℕ, zero, suc, List, [], ◌∷◌, length, get_or, set, refl, sym, ap, ◌∙◌, arith}
+use Rattle.std.specs.Prelude.{replicate}
+use Rattle.std.proofs.lemmas.Bool.{cases_Bool}
 use Rattle.std.proofs.lemmas.List.{set-get_or, length-set, get_or_default}
-use Rattle.ff_flash.specs.Cells.{Cell, erased, spoiled, closed, sealed, cell_at, cut_program, cut_seal, seal_at, has_bit, sealed_of, erased_cell, cut_erased_cell, ChangesEach, Programs, Seals, Erases, IsClosed, IsSealed, bytes_of, probe_of}
+use Rattle.ff_flash.specs.Cells.{Cell, erased, spoiled, closed, sealed, cell_at, cut_program, cut_seal, seal_at, has_bit, sealed_of, Programs, Seals, IsSealed, bytes_of, probe_of}
 use Rattle.ff_flash.specs.SimState.{IsFull}
-use Rattle.ff_flash.specs.States.{EachState, block_state, cell_of, cells_of, erased_after, probed, programmed, sealed_after, sealed_state, state_at, stored}
+use Rattle.ff_flash.specs.States.{cell_of, cells_of, probed, programmed, sealed_after, sealed_state, state_at, stored}
 use Rattle.ff_flash.specs.Turns.{answer_of}
 use Rattle.ff_flash.specs.declared.course.Turn.{Turn}
 use Rattle.ff_flash.specs.declared.course.Turn.TheVariants.{Works, Fails, CutOff, Powerless}
-use Rattle.ff_flash.specs.declared.plan.CutAt.{CutAt}
 use Rattle.ff_flash.specs.declared.spare.Spare.{Spare}
 use Rattle.ff_flash.specs.declared.states.PageState.{PageState}
 use Rattle.ff_flash.specs.declared.states.PageState.TheVariants.{Erased, Spoiled, Closed, Sealed}

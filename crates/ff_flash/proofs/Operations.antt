@@ -1,35 +1,31 @@
 -- What operations make of the cells, and what they have in common.
-use Rattle.std.proofs.Common.{◌≡◌, ◌≢◌, ◌≤◌, ◌<◌, ◌⊎◌, ◌↔◌, ◌+◌, ◌-◌, ◌*◌, ◌/◌, ◌%◌, inl, inr, ℕ, zero, suc, Bool, true, false, cond, List, [], ◌∷◌, length, get_or, set, Option, Some, None, Result, Ok, Err, refl, sym, ap, subst, ◌∙◌, arith}
-use Rattle.std.specs.Prelude.{if◌then◌else◌, not, is_some, IfSome, replicate, nat_le, nat_lt, ◌&&◌, ◌==◌, option_map}
-use Rattle.std.proofs.lemmas.Bool.{cases_eq, cases_lt, cases_Bool}
-use Rattle.std.proofs.lemmas.Bool.Decides.{nat_tests}
-use Rattle.std.proofs.lemmas.List.{length-set, length-replicate, set-get_or, get_or_default, get_or_past, get_or-set_same, get_or-set_other}
+use Rattle.std.proofs.Common.{◌≡◌, ◌+◌, ◌*◌, inl, inr, ℕ, Bool, true, false, List, [], length, Option, Some, None, refl, sym, subst, ◌∙◌, arith}
+use Rattle.std.specs.Prelude.{if◌then◌else◌, is_some, replicate}
+use Rattle.std.proofs.lemmas.Bool.{cases_Bool}
 use Rattle.ff_flash.proofs.CellLists.{fresh_cells}
 use Rattle.ff_flash.proofs.NextTurn.{cut_by_turn}
 use Rattle.ff_flash.proofs.Rising.{count_next, count_within, none_passed}
-use Rattle.ff_flash.specs.Cells.{Cell, erased, spoiled, closed, sealed, cell_at, cut_program, cut_seal, seal_at, has_bit, sealed_of, erased_cell, cut_erased_cell, ChangesEach, Programs, Seals, Erases, IsClosed, IsSealed, bytes_of, probe_of}
-use Rattle.ff_flash.specs.FlashState.{FlashState, Operates, stop_of}
-use Rattle.ff_flash.specs.Plans.{Planned, RisesFrom, IsPlan, is_listed, listed_count, cut_at, cut_numbers, due_stop}
+use Rattle.ff_flash.specs.Cells.{Cell, erased, cell_at}
+use Rattle.ff_flash.specs.FlashState.{Operates, stop_of}
+use Rattle.ff_flash.specs.Plans.{Planned, IsPlan, is_listed, listed_count, cut_at}
 use Rattle.ff_flash.specs.SimFields.{flash_of, is_cut}
-use Rattle.ff_flash.specs.SimState.{CutsBy, IsFull, IsSim}
-use Rattle.ff_flash.specs.States.{EachState, block_state, cell_of, cells_of, erased_after, programmed, sealed_after, sealed_state, state_at, stored}
+use Rattle.ff_flash.specs.SimState.{IsFull, IsSim}
+use Rattle.ff_flash.specs.States.{cells_of}
 use Rattle.ff_flash.specs.Turns.{CourseState, IsCutBy, IsOnCourse, answer_of, course_after, cut_turn, due_turn, is_powered, power_after, turn_of}
 use Rattle.ff_flash.specs.declared.course.Power.{Power}
 use Rattle.ff_flash.specs.declared.course.Power.TheVariants.{On, Down, Cut}
 use Rattle.ff_flash.specs.declared.course.Turn.{Turn}
-use Rattle.ff_flash.specs.declared.course.Turn.TheVariants.{Works, Fails, CutOff, Powerless}
+use Rattle.ff_flash.specs.declared.course.Turn.TheVariants.{Fails, CutOff, Powerless}
 use Rattle.ff_flash.specs.declared.flash.FlashStop.{FlashStop}
-use Rattle.ff_flash.specs.declared.flash.FlashStop.TheVariants.{Failed, Off}
+use Rattle.ff_flash.specs.declared.flash.FlashStop.TheVariants.{Off}
 use Rattle.ff_flash.specs.declared.plan.CutAt.{CutAt}
-use Rattle.ff_flash.specs.declared.spare.Spare.{Spare}
-use Rattle.ff_flash.specs.declared.states.PageState.{PageState}
-use Rattle.ff_flash.specs.declared.states.PageState.TheVariants.{Erased, Spoiled, Closed, Sealed}
+use Rattle.ff_flash.specs.declared.states.PageState.TheVariants.{Erased}
 
 -- an operation with the power on, by how it goes
 made : (blocks per_block : ℕ) (old new : List Cell) (plan : Planned) (n : ℕ) (power : Power) (fails : Bool) (cut : Option CutAt) → is_powered power ≡ true → IsPlan plan
     → is_listed (n + 1) plan.fail ≡ fails → cut_at (n + 1) plan.cuts ≡ cut
     → Operates (flash_of blocks per_block old (record { plan = plan; operations = n; power = power })) (stop_of (answer_of (if fails then Fails else cut_turn cut)))
-      (flash_of blocks per_block new (record { plan = plan; operations = n + 1; power = power_after (if fails then Fails else cut_turn cut) }))
+    (flash_of blocks per_block new (record { plan = plan; operations = n + 1; power = power_after (if fails then Fails else cut_turn cut) }))
 made blocks per_block old new plan n power true cut on is listed at =
     let count = count_next n 1 plan.fail is.fail in
     let rose : listed_count (n + 1) plan.fail ≡ listed_count n plan.fail + 1 = rw listed at count in
@@ -185,5 +181,5 @@ sim_known blocks per_block cells course size kept full =
 -- a flash that was just made
 pub fresh_is : (blocks per_block n : ℕ) (plan : Planned) → IsPlan plan
     → flash_of blocks per_block (cells_of (replicate n Erased) (replicate n [])) (record { plan = plan; operations = 0; power = On })
-      ≡ record { blocks = blocks; per_block = per_block; cells = replicate n erased; faults = 0; on = true; operations = 0; plan = Some plan; making = []; cut = false }
+    ≡ record { blocks = blocks; per_block = per_block; cells = replicate n erased; faults = 0; on = true; operations = 0; plan = Some plan; making = []; cut = false }
 fresh_is blocks per_block n plan is = rw (fresh_cells n, none_passed 0 1 plan.fail is.fail (omega arith)) refl

@@ -1,5 +1,5 @@
 -- The cells of a flash, a list by their places, and what each operation makes of them.
-use Rattle.std.specs.Prelude.{ℕ, ◌+◌, ◌*◌, ◌/◌, ◌%◌, ◌^◌, ◌<◌, ◌≡◌, ◌==◌, ◌&&◌, Bool, if◌then◌else◌, List, [], length, slice_index_or, slice_set, Result, Ok, Err}
+use Rattle.std.specs.Prelude.{ℕ, ◌/◌, ◌%◌, ◌^◌, ◌<◌, ◌≡◌, ◌==◌, ◌&&◌, Bool, if◌then◌else◌, List, [], length, slice_index_or, slice_set, Result, Ok, Err}
 use Rattle.ff_flash.specs.declared.spare.Spare.{Spare}
 use Rattle.ff_flash.specs.declared.flash.Probe.{Probe}
 use Rattle.ff_flash.specs.declared.flash.Probe.TheVariants.{Erased, Spoiled, Closed, Sealed}

@@ -1,5 +1,5 @@
 -- How a course's fields show, and what they keep.
-use Rattle.std.specs.Prelude.{ℕ, ◌≡◌}
+use Rattle.std.specs.Prelude.{◌≡◌}
 use Rattle.ff_flash.specs.declared.course.Course.TheInside.{Inside}
 use Rattle.ff_flash.specs.Plans.{planned_of, listed_count, cut_numbers}
 use Rattle.ff_flash.specs.Turns.{CourseState, IsOnCourse}

@@ -1,11 +1,9 @@
 -- What a contract sees of a flash, and what all operations have in common.
-use Rattle.std.specs.Prelude.{ℕ, ◌+◌, ◌*◌, ◌<◌, ◌≤◌, ◌≡◌, ◌⊎◌, ◌↔◌, Bool, true, false, not, if◌then◌else◌, List, [], length, replicate, Option, Some, None, IfSome, IsSome, Result, Ok, Err, option_and_then, option_map}
-use Rattle.ff_base.specs.declared.geometry.Geometry.{Geometry}
-use Rattle.ff_flash.specs.Cells.{Cell, erased, bytes_of, cell_at}
-use Rattle.ff_flash.specs.Plans.{Planned, IsPlan, no_plan, cut_at, due_stop, listed_count}
+use Rattle.std.specs.Prelude.{ℕ, ◌+◌, ◌*◌, ◌≤◌, ◌≡◌, ◌↔◌, Bool, true, false, not, if◌then◌else◌, List, length, Option, Some, None, IfSome, Result, Ok, Err}
+use Rattle.ff_flash.specs.Cells.{Cell}
+use Rattle.ff_flash.specs.Plans.{Planned, due_stop}
 use Rattle.ff_flash.specs.declared.flash.FlashStop.{FlashStop}
 use Rattle.ff_flash.specs.declared.flash.FlashStop.TheVariants.{Failed, Off}
-use Rattle.ff_flash.specs.declared.plan.CutAt.{CutAt}
 
 -- the blocks, the pages of a block, the cells by their places, how often an operation has failed or lost its power by
 -- a fault, whether the power is on, how many operations were made, the plan where it is told, the numbers that are

@@ -1,5 +1,5 @@
 -- Pages in one list of bytes.
-use Rattle.std.specs.Prelude.{ℕ, ◌*◌, ◌+◌, List, [], Option, Some, None, take, drop, map}
+use Rattle.std.specs.Prelude.{ℕ, ◌*◌, List, [], Option, Some, None, take, drop, map}
 use Rattle.ff_base.specs.declared.numbers.TheConstants.{PAGE_BYTES}
 
 -- the page of a number

@@ -1,5 +1,5 @@
 -- How a simulated flash's fields show, and what they keep.
-use Rattle.std.specs.Prelude.{ℕ, ◌*◌, ◌<◌, ◌^◌, ◌≡◌, Bool, true, false, List, [], Some, length, vec_len, slice_index_or}
+use Rattle.std.specs.Prelude.{ℕ, ◌*◌, ◌<◌, ◌^◌, ◌≡◌, Bool, true, false, List, [], Some, length, vec_len}
 use Rattle.ff_flash.specs.declared.sim_flash.SimFlash.TheInside.{Inside}
 use Rattle.ff_flash.specs.Cells.{Cell, cell_at}
 use Rattle.ff_flash.specs.FlashState.{FlashState}

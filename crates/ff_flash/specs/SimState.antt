@@ -1,7 +1,7 @@
 -- What a contract sees of a simulated flash.
-use Rattle.std.specs.Prelude.{ℕ, ◌+◌, ◌*◌, ◌<◌, ◌≡◌, Bool, true, false, if◌then◌else◌, List, [], length, replicate, Option, Some, None, is_some, option_map, unwrap_or}
+use Rattle.std.specs.Prelude.{ℕ, ◌+◌, ◌*◌, ◌≡◌, true, false, if◌then◌else◌, [], length, replicate, Option, Some, None, is_some, option_map, unwrap_or}
 use Rattle.ff_base.specs.declared.geometry.Geometry.{Geometry}
-use Rattle.ff_flash.specs.Cells.{Cell, erased, spoiled, closed, sealed, bytes_of, cell_at}
+use Rattle.ff_flash.specs.Cells.{Cell, erased, closed, sealed, cell_at}
 use Rattle.ff_flash.specs.FlashState.{FlashState, IsSound}
 use Rattle.ff_flash.specs.Plans.{Planned, IsPlan, no_plan, cut_at, listed_count}
 use Rattle.ff_flash.specs.declared.plan.CutAt.{CutAt}

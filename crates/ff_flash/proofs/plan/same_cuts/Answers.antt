@@ -52,6 +52,7 @@ list_itself [] = refl
 list_itself (x ∷ xs) = both_are _ _ (cut_itself x) (list_itself xs)
 
 pub returns : goal.returns
-returns c =
-    (λ e. same_lists_of c.args.cuts.now c.args.others.now (sym c.eq.ensures ∙ e),
-     λ e. c.eq.ensures ∙ subst (λ (zs : List CutAt). pointwise cut_eq.eq-value.it c.args.cuts.now zs ≡ true) e (list_itself c.args.cuts.now))
+returns c = (
+  λ e. same_lists_of c.args.cuts.now c.args.others.now (sym c.eq.ensures ∙ e),
+  λ e. c.eq.ensures ∙ subst (λ (zs : List CutAt). pointwise cut_eq.eq-value.it c.args.cuts.now zs ≡ true) e (list_itself c.args.cuts.now),
+)

@@ -1,4 +1,4 @@
-use Rattle.std.proofs.Common.{◌∙◌, ap}
+use Rattle.std.proofs.Common.{◌∙◌}
 use Rattle.ff_flash.proofs.NextTurn.{cut_by_turn, cuts_next, passed_next}
 use Rattle.ff_flash.proofs.course.Course.next.Goals as goal
 

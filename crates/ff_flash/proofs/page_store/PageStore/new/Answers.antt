@@ -1,4 +1,4 @@
-use Rattle.std.proofs.Common.{sym, arith, ap, length, ◌∙◌}
+use Rattle.std.proofs.Common.{arith}
 use Rattle.ff_flash.proofs.PageSlots.{bare_slots, bare_pages}
 use Rattle.ff_flash.proofs.page_store.PageStore.new.Goals as goal
 

@@ -1,4 +1,4 @@
-use Rattle.std.proofs.Common.{◌≡◌, ◌<◌, ◌≤◌, ◌+◌, ◌*◌, length, get_or, sym, ap, ◌∙◌, arith}
+use Rattle.std.proofs.Common.{arith}
 use Rattle.ff_flash.proofs.PageSlots.{slot_at, lies_within}
 use Rattle.ff_flash.proofs.page_store.PageStore.page.Goals as goal
 

@@ -1,6 +1,5 @@
-use Rattle.std.proofs.Common.{◌≡◌, ◌<◌, ◌≤◌, ◌+◌, ◌*◌, length, get_or, Option, Some, None, ℕ, sym, ap, ◌∙◌, arith, length-set}
-use Rattle.std.specs.Prelude.{vec_len}
-use Rattle.ff_flash.proofs.PageSlots.{overwritten, appended, slots_after, some_room, slot_at, lies_within}
+use Rattle.std.proofs.Common.{sym, ◌∙◌, arith}
+use Rattle.ff_flash.proofs.PageSlots.{overwritten, appended, slots_after, slot_at, lies_within}
 use Rattle.ff_flash.proofs.page_store.PageStore.put.Goals as goal
 
 pub overwrite-requires-clause-within : goal.overwrite-requires-clause-within

@@ -1,4 +1,4 @@
-use Rattle.std.proofs.Common.{◌≡◌, sym, ◌∙◌}
+use Rattle.std.proofs.Common.{sym, ◌∙◌}
 use Rattle.ff_flash.proofs.CellLists.{length-cells_of}
 use Rattle.ff_flash.proofs.Operations.{sim_known}
 use Rattle.ff_flash.proofs.sim_flash.SimFlash.cut_arrive.Goals as goal

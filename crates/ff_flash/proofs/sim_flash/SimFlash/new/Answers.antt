@@ -1,4 +1,4 @@
-use Rattle.std.proofs.Common.{◌≡◌, ◌*◌, List, [], replicate, length, sym, ap, ◌∙◌, arith}
+use Rattle.std.proofs.Common.{sym, ◌∙◌, arith}
 use Rattle.std.proofs.lemmas.List.{length-replicate}
 use Rattle.ff_flash.proofs.CellLists.{fresh_cells, full_fresh}
 use Rattle.ff_flash.proofs.Operations.{fresh_is}

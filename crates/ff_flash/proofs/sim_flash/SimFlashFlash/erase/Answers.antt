@@ -1,9 +1,9 @@
-use Rattle.std.proofs.Common.{◌≡◌, ◌<◌, ◌*◌, ap, sym, subst, ◌∙◌, refl, length, arith}
+use Rattle.std.proofs.Common.{◌*◌, ap, sym, subst, ◌∙◌}
 use Rattle.ff_flash.proofs.BlockCells.{cut_erases, erases_by, erases_off, full_erased}
 use Rattle.ff_flash.proofs.Operations.{on_course_after, operates_as, turn_cut}
 use Rattle.ff_flash.specs.FlashState.{stop_of}
-use Rattle.ff_flash.specs.States.{EachState, block_state, cells_of}
-use Rattle.ff_flash.specs.Turns.{answer_of, turn_of}
+use Rattle.ff_flash.specs.States.{EachState, block_state}
+use Rattle.ff_flash.specs.Turns.{answer_of}
 use Rattle.ff_flash.proofs.sim_flash.SimFlashFlash.erase.Goals as goal
 
 pub invariant_of-self : goal.invariant_of-self
@@ -25,8 +25,8 @@ pub returns-clause-counts : goal.returns-clause-counts
 returns-clause-counts c =
     rw (← c.self.view_is, c.next-turn.ensures.course, c.answer.ensures)
     (operates_as _ _ _ _ _ _ c.self.invariant.course.plan
-      (λ off. erases_off c.next-turn.result _ _ c.self.inside.states.items c.erase_at.new.states.items c.self.inside.pages (c.next-turn.ensures.turn ∙ off) c.erase_at.ensures.items)
-      (ap (λ t. stop_of (answer_of t)) c.next-turn.ensures.turn))
+    (λ off. erases_off c.next-turn.result _ _ c.self.inside.states.items c.erase_at.new.states.items c.self.inside.pages (c.next-turn.ensures.turn ∙ off) c.erase_at.ensures.items)
+    (ap (λ t. stop_of (answer_of t)) c.next-turn.ensures.turn))
 
 pub returns-clause-cut : goal.returns-clause-cut
 returns-clause-cut c cut on at =

@@ -1,4 +1,4 @@
-use Rattle.std.proofs.Common.{◌≡◌, ◌<◌, ap, sym, ◌∙◌, refl, length, arith}
+use Rattle.std.proofs.Common.{ap, sym, ◌∙◌, refl, arith}
 use Rattle.ff_flash.proofs.CellLists.{cell_at-cells_of, place_within, probed_is, state_is}
 use Rattle.ff_flash.proofs.Operations.{operates_as}
 use Rattle.ff_flash.specs.Cells.{probe_of}
