@@ -9,6 +9,8 @@ mod plan;
 mod sim_flash;
 mod spare;
 mod states;
+#[cfg(test)]
+mod tests;
 
 pub use flash::{Flash, FlashStop, Probe};
 pub use plan::{CutAt, Plan};

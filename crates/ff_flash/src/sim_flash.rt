@@ -1,7 +1,7 @@
 // A flash in memory that keeps the trait's contract.
-ghost use Rattle.std.specs.Prelude.{◌≡◌, ◌<◌, ◌^◌, ◌↔◌, IfOk, IsTrue, length, Some};
+ghost use Rattle.std.specs.Prelude.{◌≡◌, ◌<◌, ◌^◌, ◌↔◌, IfOk, IfSome, IsSome, IsTrue, length, Some};
 ghost use Rattle.ff_base.specs.Geometry.{IsWithinLimits};
-ghost use Rattle.ff_flash.specs.Cells.{Erases, IsClosed, IsSealed, Probes, Programs, Reads, Seals, cell_at, erased, cut_program, cut_seal, cut_erased_cell, ChangesEach};
+ghost use Rattle.ff_flash.specs.Cells.{Erases, IsClosed, IsSealed, Probes, Programs, Reads, Seals, cell_at, erased, cut_program, cut_seal, cut_erased_cell, probe_of, ChangesEach};
 ghost use Rattle.ff_flash.specs.FlashState.{FlashState, Operates, powered_off, powered_up, stop_of};
 ghost use Rattle.ff_flash.specs.SimState.{CutsBy, IsSim, arrive_of_cut, fresh_flash};
 ghost use Rattle.ff_flash.specs.States.{stored};
@@ -80,6 +80,26 @@ impl SimFlash {
         ensures { IsTrue result ↔ (self.now.plan ≡ Some (planned_of plan.now)) }
     {
         self.course.plan().is(plan)
+    }
+}
+
+#[cfg(test)]
+impl SimFlash {
+    // What a probe would tell of a place of the flash. It is no operation.
+    pub(crate) fn glance(&self, at: Ppn) -> Option<Probe>
+        ensures within { IsSome result → at.0 < length self.now.cells }
+        ensures probe { IfSome result (λ probe. probe ≡ probe_of (cell_at self.now.cells at.0)) }
+    {
+        if at.0 as usize >= self.states.len() {
+            return None;
+        }
+        Some(probe_of(self.states[at.0 as usize]))
+    }
+
+    pub(crate) fn has_block(&self, block: Block) -> bool
+        ensures { IsTrue result → block.0 < self.now.blocks }
+    {
+        block.0 < self.blocks
     }
 }
 
