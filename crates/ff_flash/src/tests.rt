@@ -124,6 +124,40 @@ fn each_operation_follows_the_table(rt: HostRuntime) -> Result<(), Fail> {
     Ok(())
 }
 
+#[test]
+fn a_flash_tells_its_counts_its_bytes_and_its_cut(rt: HostRuntime) -> Result<(), Fail> {
+    let mut page = PageBuf::new(rt.alloc())?;
+    page.set_line(1, &[9; 64]);
+    let made = flash_of(rt.alloc(), Probe::Erased, Way::Cut(0))?;
+    assert!(rt; made.is_some());
+    if let Some(mut flash) = made {
+        bring(&mut flash, Ppn(4), &page, SEALED);
+        bring(&mut flash, Ppn(5), &page, SEALED);
+        let mut other = flash.copy(rt.alloc())?;
+        page.clear();
+        assert_eq!(rt; read(&mut other, Ppn(4), &mut page), OFF);
+        assert_eq!(rt; page.line(1), [0; 64]);
+        assert_eq!(rt; other.cut_arrive(), Some(2));
+        other.power_off();
+        assert_eq!(rt; other.cut_arrive(), Some(2));
+        other.power_up();
+        assert_eq!(rt; other.cut_arrive(), None);
+        assert_eq!(rt; read(&mut other, Ppn(4), &mut page), OK);
+        assert_eq!(rt; page.line(1), [9; 64]);
+        assert_eq!(rt; other.operation_count(), 6);
+        assert!(rt; other.is_on());
+        flash.power_off();
+        assert_eq!(rt; flash.cut_arrive(), None);
+        assert_eq!(rt; probe(&mut flash, Ppn(4)), Some(Err(FlashStop::Off)));
+        assert_eq!(rt; flash.operation_count(), 4);
+        assert_eq!(rt; flash.fault_count(), 0);
+        assert!(rt; !flash.is_on());
+        assert!(rt; flash.plan_is(&cut(rt.alloc(), 0)?));
+        assert!(rt; !flash.plan_is(&failing(rt.alloc())?));
+    }
+    Ok(())
+}
+
 // The answer to the operation on a flash whose pages 4 and 5 are in the state, and their states after it.
 fn made(alloc: Global, state: Probe, call: Call, way: Way) -> Result<After, NoMemory> {
     let Some(mut flash) = flash_of(alloc, state, way)? else {
