@@ -124,36 +124,69 @@ fn each_operation_follows_the_table(rt: HostRuntime) -> Result<(), Fail> {
     Ok(())
 }
 
+/// The operations made, the faults, whether the power is on, and the posts that arrive after a cut.
+type Counts = (u64, u64, bool, Option<u32>);
+
 #[test]
-fn a_flash_tells_its_counts_its_bytes_and_its_cut(rt: HostRuntime) -> Result<(), Fail> {
-    let mut page = PageBuf::new(rt.alloc())?;
-    page.set_line(1, &[9; 64]);
+fn a_flash_tells_its_counts_and_its_cut(rt: HostRuntime) -> Result<(), Fail> {
     let made = flash_of(rt.alloc(), Probe::Erased, Way::Cut(0))?;
     assert!(rt; made.is_some());
     if let Some(mut flash) = made {
-        bring(&mut flash, Ppn(4), &page, SEALED);
-        bring(&mut flash, Ppn(5), &page, SEALED);
-        let mut other = flash.copy(rt.alloc())?;
-        page.clear();
-        assert_eq!(rt; read(&mut other, Ppn(4), &mut page), OFF);
-        assert_eq!(rt; page.line(1), [0; 64]);
-        assert_eq!(rt; other.cut_arrive(), Some(2));
-        other.power_off();
-        assert_eq!(rt; other.cut_arrive(), Some(2));
-        other.power_up();
-        assert_eq!(rt; other.cut_arrive(), None);
-        assert_eq!(rt; read(&mut other, Ppn(4), &mut page), OK);
-        assert_eq!(rt; page.line(1), [9; 64]);
-        assert_eq!(rt; other.operation_count(), 6);
-        assert!(rt; other.is_on());
-        flash.power_off();
-        assert_eq!(rt; flash.cut_arrive(), None);
-        assert_eq!(rt; probe(&mut flash, Ppn(4)), Some(Err(FlashStop::Off)));
-        assert_eq!(rt; flash.operation_count(), 4);
-        assert_eq!(rt; flash.fault_count(), 0);
-        assert!(rt; !flash.is_on());
+        assert_eq!(rt; counts_of(&flash), (0, 0, true, None));
         assert!(rt; flash.plan_is(&cut(rt.alloc(), 0)?));
         assert!(rt; !flash.plan_is(&failing(rt.alloc())?));
+        probe_to(&mut flash, 5);
+        let mut other = flash.copy(rt.alloc())?;
+        assert_eq!(rt;
+            powers(&mut other),
+            [
+                (5, 0, false, Some(2)),
+                (5, 0, true, None),
+                (5, 0, false, None)
+            ]
+        );
+        assert_eq!(rt; counts_of(&flash), (5, 0, false, Some(2)));
+    }
+    Ok(())
+}
+
+// The counts after the power is turned off, up and off again.
+fn powers(flash: &mut SimFlash) -> [Counts; 3] {
+    flash.power_off();
+    let first = counts_of(flash);
+    flash.power_up();
+    let second = counts_of(flash);
+    flash.power_off();
+    [first, second, counts_of(flash)]
+}
+
+fn counts_of(flash: &SimFlash) -> Counts {
+    (
+        flash.operation_count(),
+        flash.fault_count(),
+        flash.is_on(),
+        flash.cut_arrive(),
+    )
+}
+
+fn probe_to(flash: &mut SimFlash, number: u64) {
+    for _ in flash.operation_count()..number {
+        let _ = probe(flash, Ppn(0));
+    }
+}
+
+#[test]
+fn a_page_reads_as_it_was_programmed(rt: HostRuntime) -> Result<(), Fail> {
+    let made = flash_of(rt.alloc(), Probe::Erased, Way::Works)?;
+    assert!(rt; made.is_some());
+    if let Some(mut flash) = made {
+        let mut page = PageBuf::new(rt.alloc())?;
+        page.set_line(1, &[9; 64]);
+        bring(&mut flash, Ppn(5), &page, SEALED);
+        page.clear();
+        bring(&mut flash, Ppn(4), &page, SEALED);
+        assert_eq!(rt; read(&mut flash, Ppn(5), &mut page), OK);
+        assert_eq!(rt; page.line(1), [9; 64]);
     }
     Ok(())
 }
@@ -166,9 +199,7 @@ fn made(alloc: Global, state: Probe, call: Call, way: Way) -> Result<After, NoMe
     let mut page = PageBuf::new(alloc)?;
     bring(&mut flash, Ppn(4), &page, state);
     bring(&mut flash, Ppn(5), &page, state);
-    for _ in flash.operation_count()..4 {
-        let _ = probe(&mut flash, Ppn(0));
-    }
+    probe_to(&mut flash, 4);
     let answer = match call {
         Call::Probe => probe(&mut flash, Ppn(4)).map(|told| told.map(|_| ())),
         Call::Read => read(&mut flash, Ppn(4), &mut page),
