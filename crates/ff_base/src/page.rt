@@ -51,6 +51,22 @@ impl PageBuf {
         self.bytes[from..from + LINE_BYTES].copy_from_slice(bytes);
     }
 
+    /// All bytes, in their order.
+    pub fn as_slice(&self) -> &[u8]
+        ensures bytes { result.now ≡ self.now }
+        ensures size { length self.now ≡ PAGE_BYTES }
+    {
+        self.bytes.as_slice()
+    }
+
+    /// Replaces all bytes.
+    pub fn copy_from(&mut self, bytes: &[u8])
+        requires { length bytes.now ≡ PAGE_BYTES }
+        ensures { self.new ≡ bytes.now }
+    {
+        self.bytes.copy_from_slice(bytes);
+    }
+
     /// Makes every byte zero.
     #[tactic(auto, unfolding(crate::specs::Page::blank_page))]
     pub fn clear(&mut self)

@@ -1,0 +1,11 @@
+pub mod Cells
+pub mod CourseFields
+pub mod FlashState
+pub mod Pages
+pub mod Plans
+pub mod SimFields
+pub mod SimState
+pub mod Spares
+pub mod States
+pub mod StoreFields
+pub mod Turns

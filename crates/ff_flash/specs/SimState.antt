@@ -1,0 +1,40 @@
+-- What a contract sees of a simulated flash.
+use Rattle.std.specs.Prelude.{ℕ, ◌+◌, ◌*◌, ◌≡◌, true, false, if◌then◌else◌, [], length, replicate, Option, Some, None, is_some, option_map, unwrap_or}
+use Rattle.ff_base.specs.declared.geometry.Geometry.{Geometry}
+use Rattle.ff_flash.specs.Cells.{Cell, erased, closed, sealed, cell_at}
+use Rattle.ff_flash.specs.FlashState.{FlashState, IsSound}
+use Rattle.ff_flash.specs.Plans.{Planned, IsPlan, no_plan, cut_at, listed_count}
+use Rattle.ff_flash.specs.declared.plan.CutAt.{CutAt}
+
+-- the plan of a flash that tells it
+abbrev pub plan_in : FlashState → Planned
+plan_in flash = unwrap_or flash.plan no_plan
+
+-- a flash whose pages are all erased, with its power on
+abbrev pub fresh_flash : Geometry → Planned → FlashState
+fresh_flash geometry plan =
+    record { blocks = geometry.blocks; per_block = geometry.per_block; cells = replicate (geometry.blocks * geometry.per_block) erased; faults = 0; on = true; operations = 0; plan = Some plan; making = []; cut = false }
+
+-- how many posts arrive after the cut that turned the power off: what the plan's cut of the last operation says
+abbrev pub arrive_of_cut : FlashState → Option ℕ
+arrive_of_cut flash = if flash.cut then option_map (λ cut. cut.arrive) (cut_at flash.operations (plan_in flash).cuts) else None
+
+-- where the plan has a cut of the next operation, and the power is on, this holds of the cut's mask
+abbrev pub CutsBy : FlashState → (ℕ → Type 0) → Type 0
+CutsBy flash Change = (cut : CutAt) → flash.on ≡ true → cut_at (flash.operations + 1) (plan_in flash).cuts ≡ Some cut → Change cut.mask
+
+-- a programmed page has 4,096 bytes
+abbrev pub IsFull : Cell → Type 0
+IsFull (closed bytes spare) = length bytes ≡ 4096
+IsFull (sealed bytes spare) = length bytes ≡ 4096
+IsFull _ = Unit {0}
+
+-- what every simulated flash keeps
+pub record IsSim (flash : FlashState) : Type 0 where
+  pub sound : IsSound flash
+  pub told : flash.plan ≡ Some (plan_in flash)
+  pub plan : IsPlan (plan_in flash)
+  pub faults : flash.faults ≡ listed_count flash.operations (plan_in flash).fail
+  pub cut : flash.cut ≡ true → is_some (cut_at flash.operations (plan_in flash).cuts) ≡ true
+  pub making : flash.making ≡ []
+  pub full : (place : ℕ) → IsFull (cell_at flash.cells place)
