@@ -58,9 +58,6 @@ fn each_operation_follows_the_table(rt: HostRuntime) -> Result<(), Fail> {
     let same = [Probe::Erased, Probe::Spoiled, Probe::Closed, SEALED];
     for state in same {
         for (way, answer) in [(Way::Works, OK), (Way::Fails, FAILED), (Way::Cut(3), OFF)] {
-            if state == Probe::Spoiled && answer == OFF {
-                continue;
-            }
             let after = made(rt.alloc(), state, Call::Probe, way)?;
             assert_eq!(rt; after, (answer, Some(state), Some(state)));
         }
@@ -72,9 +69,6 @@ fn each_operation_follows_the_table(rt: HostRuntime) -> Result<(), Fail> {
             (Way::Cut(1), OFF, spoiled, state),
             (Way::Cut(3), OFF, spoiled, spoiled),
         ] {
-            if state == Probe::Spoiled && answer == OFF {
-                continue;
-            }
             let after = made(rt.alloc(), state, Call::Erase, way)?;
             assert_eq!(rt; after, (answer, Some(first), Some(second)));
         }
@@ -210,7 +204,7 @@ fn made(alloc: Global, state: Probe, call: Call, way: Way) -> Result<After, NoMe
     Ok((answer, flash.glance(Ppn(4)), flash.glance(Ppn(5))))
 }
 
-// The fifth operation goes so. The first two fail where the state is spoiled, and then no operation is cut.
+// The fifth operation goes so. Where the state is spoiled, the first two fail, or are cut if the fifth is.
 fn flash_of(alloc: Global, state: Probe, way: Way) -> Result<Option<SimFlash>, NoMemory> {
     let geometry = Geometry::default();
     if geometry.check().is_err() {
@@ -218,7 +212,8 @@ fn flash_of(alloc: Global, state: Probe, way: Way) -> Result<Option<SimFlash>, N
     }
     let plan = match (state, way) {
         (Probe::Spoiled, Way::Fails) => failing_three(alloc)?,
-        (Probe::Spoiled, _) => failing_two(alloc)?,
+        (Probe::Spoiled, Way::Works) => failing_two(alloc)?,
+        (Probe::Spoiled, Way::Cut(mask)) => three_cuts(alloc, mask)?,
         (_, Way::Works) => Plan {
             fail: Vec::new(alloc),
             cuts: Vec::new(alloc),
@@ -271,10 +266,37 @@ fn cut(alloc: Global, mask: u32) -> Result<Plan, NoMemory>
     })
 }
 
-// Brings an erased page to a state.
+fn three_cuts(alloc: Global, mask: u32) -> Result<Plan, NoMemory>
+    ensures { IfOk result (λ plan. IsPlan (planned_of plan)) }
+{
+    let arrive = 2;
+    Ok(Plan {
+        fail: Vec::new(alloc),
+        cuts: vec![in alloc;
+            CutAt {
+                at: 1,
+                mask: 1,
+                arrive
+            },
+            CutAt {
+                at: 2,
+                mask: 1,
+                arrive
+            },
+            CutAt {
+                at: 5,
+                mask,
+                arrive
+            },
+        ]?,
+    })
+}
+
+// Brings an erased page to a state, with the power on.
 fn bring(flash: &mut SimFlash, at: Ppn, page: &PageBuf, state: Probe) {
     if state != Probe::Erased {
         let _ = program(flash, at, page);
+        flash.power_up();
     }
     if state == SEALED {
         let _ = seal(flash, at);
