@@ -75,6 +75,17 @@ impl SimFlash {
         self.course.cut_arrive()
     }
 
+    /// What a probe of a place would tell, where the flash has the place. It is no operation, and isn't counted.
+    pub fn glance(&self, at: Ppn) -> Option<Probe>
+        ensures within { IsSome result → at.0 < length self.now.cells }
+        ensures probe { IfSome result (λ probe. probe ≡ probe_of (cell_at self.now.cells at.0)) }
+    {
+        if at.0 as usize >= self.states.len() {
+            return None;
+        }
+        Some(probe_of(self.states[at.0 as usize]))
+    }
+
     /// Whether the flash has this plan.
     pub fn plan_is(&self, plan: &Plan) -> bool
         ensures { IsTrue result ↔ (self.now.plan ≡ Some (planned_of plan.now)) }
@@ -85,17 +96,6 @@ impl SimFlash {
 
 #[cfg(test)]
 impl SimFlash {
-    // What a probe would tell of a place of the flash. It is no operation.
-    pub(crate) fn glance(&self, at: Ppn) -> Option<Probe>
-        ensures within { IsSome result → at.0 < length self.now.cells }
-        ensures probe { IfSome result (λ probe. probe ≡ probe_of (cell_at self.now.cells at.0)) }
-    {
-        if at.0 as usize >= self.states.len() {
-            return None;
-        }
-        Some(probe_of(self.states[at.0 as usize]))
-    }
-
     pub(crate) fn has_block(&self, block: Block) -> bool
         ensures { IsTrue result → block.0 < self.now.blocks }
     {

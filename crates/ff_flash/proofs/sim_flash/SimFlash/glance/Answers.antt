@@ -1,4 +1,4 @@
-use Rattle.std.proofs.Common.{◌≡◌, ◌<◌, ap, sym, ◌∙◌, length, arith}
+use Rattle.std.proofs.Common.{ap, sym, ◌∙◌, arith}
 use Rattle.ff_flash.proofs.CellLists.{cell_at-cells_of, length-cells_of, probed_is, state_is}
 use Rattle.ff_flash.specs.Cells.{probe_of}
 use Rattle.ff_flash.specs.States.{probed}
