@@ -77,7 +77,7 @@ impl SimFlash {
 
     /// What a probe of a place would tell, where the flash has the place. It is no operation, and isn't counted.
     pub fn glance(&self, at: Ppn) -> Option<Probe>
-        ensures within { IsSome result → at.0 < length self.now.cells }
+        ensures within { IsSome result ↔ (at.0 < length self.now.cells) }
         ensures probe { IfSome result (λ probe. probe ≡ probe_of (cell_at self.now.cells at.0)) }
     {
         if at.0 as usize >= self.states.len() {
