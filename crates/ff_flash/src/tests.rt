@@ -2,6 +2,7 @@ ghost use Rattle.std.specs.Prelude.{◌≤◌, IfOk};
 ghost use Rattle.ff_flash.specs.Plans.{IsPlan, planned_of};
 
 use super::*;
+use crate::Probe::{Closed, Erased, Spoiled};
 use ff_base::{Block, Geometry, NoMemory, PageBuf, PageNo, Ppn};
 use std::alloc::Global;
 use std::test::Fail;
@@ -51,69 +52,61 @@ const OFF: Answer = Some(Err(FlashStop::Off));
 
 const SEALED: Probe = Probe::Sealed(SPARE);
 
-// The first page of the second block of a flash of 4 pages a block is in the state named first, and so is its second;
-// after the operation on the first, or its block, they are in the states named last.
+// Each way that an operation goes, and the answer to it.
+const WAYS: [(Way, Answer); 5] = [
+    (Way::Works, OK),
+    (Way::Fails, FAILED),
+    (Way::Cut(0), OFF),
+    (Way::Cut(1), OFF),
+    (Way::Cut(3), OFF),
+];
+
+// What a program makes of an erased page, each way, and a seal of a closed one.
+const PROGRAMMED: [Probe; 5] = [Closed, Spoiled, Erased, Spoiled, Spoiled];
+
+const NOW_SEALED: [Probe; 5] = [SEALED, Closed, Closed, SEALED, SEALED];
+
+// In the tables below, the first two pages of the second block of a flash of 4 pages a block are in one state. The
+// operation is on the first of them, or on their block.
 #[test]
-fn each_operation_follows_the_table(rt: HostRuntime) -> Result<(), Fail> {
-    let same = [Probe::Erased, Probe::Spoiled, Probe::Closed, SEALED];
-    for state in same {
-        for (way, answer) in [(Way::Works, OK), (Way::Fails, FAILED), (Way::Cut(3), OFF)] {
+fn a_probe_or_a_read_changes_no_page(rt: HostRuntime) -> Result<(), Fail> {
+    for (way, answer) in WAYS {
+        for state in [Erased, Spoiled, Closed, SEALED] {
             let after = made(rt.alloc(), state, Call::Probe, way)?;
             assert_eq!(rt; after, (answer, Some(state), Some(state)));
         }
-        let spoiled = Probe::Spoiled;
+        let after = made(rt.alloc(), SEALED, Call::Read, way)?;
+        assert_eq!(rt; after, (answer, Some(SEALED), Some(SEALED)));
+    }
+    Ok(())
+}
+
+#[test]
+fn a_program_or_a_seal_changes_its_page(rt: HostRuntime) -> Result<(), Fail> {
+    for ((way, answer), page) in WAYS.into_iter().zip(PROGRAMMED) {
+        let after = made(rt.alloc(), Erased, Call::Program, way)?;
+        assert_eq!(rt; after, (answer, Some(page), Some(Erased)));
+    }
+    for ((way, answer), page) in WAYS.into_iter().zip(NOW_SEALED) {
+        let after = made(rt.alloc(), Closed, Call::Seal, way)?;
+        assert_eq!(rt; after, (answer, Some(page), Some(Closed)));
+    }
+    Ok(())
+}
+
+#[test]
+fn an_erase_changes_its_block(rt: HostRuntime) -> Result<(), Fail> {
+    for state in [Erased, Spoiled, Closed, SEALED] {
         for (way, answer, first, second) in [
-            (Way::Works, OK, Probe::Erased, Probe::Erased),
+            (Way::Works, OK, Erased, Erased),
             (Way::Fails, FAILED, state, state),
             (Way::Cut(0), OFF, state, state),
-            (Way::Cut(1), OFF, spoiled, state),
-            (Way::Cut(3), OFF, spoiled, spoiled),
+            (Way::Cut(1), OFF, Spoiled, state),
+            (Way::Cut(3), OFF, Spoiled, Spoiled),
         ] {
             let after = made(rt.alloc(), state, Call::Erase, way)?;
             assert_eq!(rt; after, (answer, Some(first), Some(second)));
         }
-    }
-    for (state, call, way, answer, first) in [
-        (SEALED, Call::Read, Way::Works, OK, SEALED),
-        (SEALED, Call::Read, Way::Fails, FAILED, SEALED),
-        (SEALED, Call::Read, Way::Cut(1), OFF, SEALED),
-        (Probe::Erased, Call::Program, Way::Works, OK, Probe::Closed),
-        (
-            Probe::Erased,
-            Call::Program,
-            Way::Fails,
-            FAILED,
-            Probe::Spoiled,
-        ),
-        (
-            Probe::Erased,
-            Call::Program,
-            Way::Cut(0),
-            OFF,
-            Probe::Erased,
-        ),
-        (
-            Probe::Erased,
-            Call::Program,
-            Way::Cut(1),
-            OFF,
-            Probe::Spoiled,
-        ),
-        (
-            Probe::Erased,
-            Call::Program,
-            Way::Cut(3),
-            OFF,
-            Probe::Spoiled,
-        ),
-        (Probe::Closed, Call::Seal, Way::Works, OK, SEALED),
-        (Probe::Closed, Call::Seal, Way::Fails, FAILED, Probe::Closed),
-        (Probe::Closed, Call::Seal, Way::Cut(0), OFF, Probe::Closed),
-        (Probe::Closed, Call::Seal, Way::Cut(1), OFF, SEALED),
-        (Probe::Closed, Call::Seal, Way::Cut(3), OFF, SEALED),
-    ] {
-        let after = made(rt.alloc(), state, call, way)?;
-        assert_eq!(rt; after, (answer, Some(first), Some(state)));
     }
     Ok(())
 }
@@ -123,7 +116,7 @@ type Counts = (u64, u64, bool, Option<u32>);
 
 #[test]
 fn a_flash_tells_its_counts_and_its_cut(rt: HostRuntime) -> Result<(), Fail> {
-    let made = flash_of(rt.alloc(), Probe::Erased, Way::Cut(0))?;
+    let made = flash_of(rt.alloc(), Erased, Way::Cut(0))?;
     assert!(rt; made.is_some());
     if let Some(mut flash) = made {
         assert_eq!(rt; counts_of(&flash), (0, 0, true, None));
@@ -171,7 +164,7 @@ fn probe_to(flash: &mut SimFlash, number: u64) {
 
 #[test]
 fn a_page_reads_as_it_was_programmed(rt: HostRuntime) -> Result<(), Fail> {
-    let made = flash_of(rt.alloc(), Probe::Erased, Way::Works)?;
+    let made = flash_of(rt.alloc(), Erased, Way::Works)?;
     assert!(rt; made.is_some());
     if let Some(mut flash) = made {
         let mut page = PageBuf::new(rt.alloc())?;
@@ -211,9 +204,9 @@ fn flash_of(alloc: Global, state: Probe, way: Way) -> Result<Option<SimFlash>, N
         return Ok(None);
     }
     let plan = match (state, way) {
-        (Probe::Spoiled, Way::Fails) => failing_three(alloc)?,
-        (Probe::Spoiled, Way::Works) => failing_two(alloc)?,
-        (Probe::Spoiled, Way::Cut(mask)) => three_cuts(alloc, mask)?,
+        (Spoiled, Way::Fails) => failing_three(alloc)?,
+        (Spoiled, Way::Works) => failing_two(alloc)?,
+        (Spoiled, Way::Cut(mask)) => three_cuts(alloc, mask)?,
         (_, Way::Works) => Plan {
             fail: Vec::new(alloc),
             cuts: Vec::new(alloc),
@@ -294,7 +287,7 @@ fn three_cuts(alloc: Global, mask: u32) -> Result<Plan, NoMemory>
 
 // Brings an erased page to a state, with the power on.
 fn bring(flash: &mut SimFlash, at: Ppn, page: &PageBuf, state: Probe) {
-    if state != Probe::Erased {
+    if state != Erased {
         let _ = program(flash, at, page);
         flash.power_up();
     }
@@ -315,7 +308,7 @@ fn program(flash: &mut SimFlash, at: Ppn, page: &PageBuf) -> Option<Result<(), F
         return None;
     }
     match flash.glance(at) {
-        Some(Probe::Erased) => Some(flash.program(at, page, SPARE)),
+        Some(Erased) => Some(flash.program(at, page, SPARE)),
         _ => None,
     }
 }
@@ -325,7 +318,7 @@ fn seal(flash: &mut SimFlash, at: Ppn) -> Option<Result<(), FlashStop>> {
         return None;
     }
     match flash.glance(at) {
-        Some(Probe::Closed) => Some(flash.seal(at)),
+        Some(Closed) => Some(flash.seal(at)),
         _ => None,
     }
 }
