@@ -1,6 +1,7 @@
+// A sink into memory.
 ghost use Rattle.std.specs.Prelude.{◌≡◌, ◌<◌, ◌≤◌, ◌+◌, ◌↔◌, ◌⊎◌, [], ◌++◌, length, vec_capacity, vec_len, Some, IfOk, OnOk, OnErr, IsErr, Contains};
 ghost use Rattle.std.specs.Io.KnownBytes.{Appends};
-ghost use Rattle.ff_base.specs.Count.{Rose};
+ghost use Rattle.ff_io.specs.Faults.{CountsFault};
 ghost use Rattle.ff_io.specs.Known.{AppendsPrefix};
 ghost use Rattle.ff_io.specs.Memory.{SinkState, next_count};
 
@@ -67,9 +68,7 @@ impl Sink for MemorySink {
     fn write(&mut self, piece: &[u8]) -> Result<(), Failed>
         ensures ok { OnOk result (Appends (Some self.old.written) (Some self.new.written) piece.now) }
         ensures err { OnErr result (AppendsPrefix (Some self.old.written) (Some self.new.written) piece.now) }
-        ensures same_faults { OnOk result (self.new.faults ≡ self.old.faults) }
-        ensures cause { OnErr result (Rose self.old.faults self.new.faults) }
-        ensures no_fall { self.old.faults ≤ self.new.faults }
+        ensures faults { CountsFault result self.old.faults self.new.faults }
 
         // It fails at the listed calls and where the piece does not fit, and at no other, and then appends nothing.
         ensures fails { IsErr result ↔ (Contains self.old.fail (next_count self.old.calls) ⊎ (self.old.room < length self.old.written + length piece.now)) }

@@ -1,5 +1,5 @@
 use super::*;
-use crate::retries::{read_some, write_whole};
+use crate::retries::{read_retried, write_whole};
 use std::io::{self, ErrorKind, Read, Write};
 use std::test::Fail;
 
@@ -43,13 +43,13 @@ fn a_sink_fails_at_its_second_write_and_where_a_piece_does_not_fit(
 
 #[test]
 fn standard_input_is_read(rt: HostRuntime) {
-    let mut source = HostSource::new(rt.stdin());
+    let mut source = HostSource::new(rt.alloc(), rt.stdin())?;
     assert_eq!(rt; read_from(&mut source, &mut []), Ok(0));
 }
 
 #[test]
 fn standard_output_is_written(rt: HostRuntime) {
-    let mut sink = HostSink::new(rt.stdout());
+    let mut sink = HostSink::new(rt.alloc(), rt.stdout())?;
     for piece in [b"".as_slice(), b"a line\n".as_slice()] {
         assert_eq!(rt; write_to(&mut sink, piece), Ok(()));
     }
@@ -63,7 +63,7 @@ fn an_interrupted_call_is_tried_a_thousand_times(rt: HostRuntime) {
         (1000, Err(Failed), Err(Failed)),
     ] {
         let mut input = Interrupted { interruptions };
-        assert_eq!(rt; read_some(&mut input, &mut [0; 2]), read);
+        assert_eq!(rt; read_retried(&mut input, &mut [0; 2]), read);
         let mut output = Interrupted { interruptions };
         assert_eq!(rt; write_whole(&mut output, &[1, 2, 3]), written);
     }
