@@ -20,7 +20,7 @@ sink_stream s = writer_inner s.output
 abbrev pub sink_waiting : {W : Type 0} → HostSink W → List ℕ
 sink_waiting s = writer_buffer s.output
 
--- what was written to a sink: the stream's bytes and then those that wait, so that the stream's are a prefix
+-- what was written to a sink: the stream's bytes, which are thus a prefix, and then those that wait
 abbrev pub sink_written : {W : Type 0} → (W → Option (List ℕ)) → HostSink W → Option (List ℕ)
 sink_written contents s = writer_contents contents s.output
 

@@ -12,8 +12,8 @@ use std::io::{BufWriter, Stdout, Write};
 /// How many bytes wait for the stream at most.
 const BUFFER_BYTES: usize = 1 << 16;
 
-/// A sink over a stream, by default standard output. What is written waits in a buffer until that is full or
-/// flushed, so the stream has a prefix of it.
+/// A sink over a stream, by default standard output. What is written waits in a buffer until that
+/// is full or flushed, so the stream has a prefix of it.
 #[derive(Drop)]
 pub struct HostSink<W: Write + Drop = Stdout> {
     output: BufWriter<W>,

@@ -1,5 +1,6 @@
 // A source over a stream of the host.
-ghost use Rattle.std.specs.Prelude.{◌≡◌, ◌<◌, vec_len, IfOk};
+ghost use Rattle.std.specs.Prelude.{◌≡◌, ◌<◌, ◌≤◌, drop, length, take, vec_len, IfOk, OnErr};
+ghost use Rattle.std.specs.Io.KnownBytes.{Consumes, IsAtEnd, Keeps};
 
 use crate::front::copy_front;
 use crate::retries::read_retried;
@@ -13,7 +14,7 @@ const CHUNK_BYTES: usize = 1 << 16;
 
 /// A source over a stream, by default standard input.
 #[derive(Drop)]
-pub struct HostSource<R: Read = Stdin> {
+pub struct HostSource<R = Stdin> {
     input: R,
     chunk: Vec<u8>,
     faults: u64,
@@ -42,16 +43,30 @@ impl<R: Read> Source for HostSource<R> {
 
     ghost faults = { λ s. source_faults s };
 
-    // A stream may change its whole buffer, so it reads into one of the source's own.
     fn read(&mut self, into: &mut [u8]) -> Result<usize, Failed> {
-        let most = into.len().min(self.chunk.len());
-        let result = read_retried(&mut self.input, &mut self.chunk[..most]);
-        match result {
-            Ok(count) => {
-                copy_front(&self.chunk[..count], into);
-            }
-            Err(Failed) => self.faults = self.faults.saturating_add(1),
+        let result = read_through(&mut self.input, &mut self.chunk, into);
+        if result.is_err() {
+            self.faults = self.faults.saturating_add(1);
         }
         result
+    }
+}
+
+// One read by way of the chunk, since a stream may change all of the buffer that it reads into.
+fn read_through<R: Read>(input: &mut R, chunk: &mut [u8], into: &mut [u8]) -> Result<usize, Failed>
+    requires { 0 < length chunk.old }
+    ensures bound { IfOk result (λ n. n ≤ length into.old) }
+    ensures taken { IfOk result (λ n.
+        Consumes (R.remaining input.old) (R.remaining input.new) (take n into.new)) }
+    ensures end { IfOk result (λ n.
+        n ≡ 0 → 0 < length into.old → IsAtEnd (R.remaining input.old)) }
+    ensures behind { IfOk result (λ n. drop n into.new ≡ drop n into.old) }
+    ensures kept { OnErr result (Keeps (R.remaining input.old) (R.remaining input.new)) }
+    ensures unchanged { OnErr result (into.new ≡ into.old) }
+{
+    let most = into.len().min(chunk.len());
+    match read_retried(input, &mut chunk[..most]) {
+        Ok(count) => Ok(copy_front(&chunk[..count], into)),
+        Err(failed) => Err(failed),
     }
 }

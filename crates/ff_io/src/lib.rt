@@ -1,5 +1,5 @@
-//! The outside of the product: where bytes come from and where they go, with forms in memory for tests and the
-//! adapters of standard input and output.
+//! The outside of the product: where bytes come from and where they go, with forms in memory for
+//! tests and the adapters of standard input and output.
 #![tactic(auto)]
 
 mod front;

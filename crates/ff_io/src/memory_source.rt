@@ -21,7 +21,12 @@ pub struct MemorySource {
 impl Model for MemorySource {
     ghost Value = { SourceState };
 
-    ghost view = { λ s. record { left = drop s.at s.bytes.items; fail = s.fail.items; calls = s.calls; faults = s.faults } };
+    ghost view = { λ s. record {
+      left = drop s.at s.bytes.items;
+      fail = s.fail.items;
+      calls = s.calls;
+      faults = s.faults;
+    } };
 
     ghost invariant = { λ s. s.at ≤ vec_len s.bytes };
 }
@@ -29,7 +34,12 @@ impl Model for MemorySource {
 impl MemorySource {
     /// A source of all these bytes.
     pub fn new(bytes: Vec<u8>, fail: Vec<u64>) -> MemorySource
-        ensures { result ≡ record { left = bytes.items; fail = fail.items; calls = 0; faults = 0 } }
+        ensures { result ≡ record {
+          left = bytes.items;
+          fail = fail.items;
+          calls = 0;
+          faults = 0;
+        } }
     {
         MemorySource {
             bytes,
@@ -55,8 +65,10 @@ impl Source for MemorySource {
 
     fn read(&mut self, into: &mut [u8]) -> Result<usize, Failed>
         ensures bound { IfOk result (λ n. n ≤ length into.old) }
-        ensures taken { IfOk result (λ n. Consumes (Some self.old.left) (Some self.new.left) (take n into.new)) }
-        ensures end { IfOk result (λ n. n ≡ 0 → 0 < length into.old → IsAtEnd (Some self.old.left)) }
+        ensures taken { IfOk result (λ n.
+            Consumes (Some self.old.left) (Some self.new.left) (take n into.new)) }
+        ensures end { IfOk result (λ n.
+            n ≡ 0 → 0 < length into.old → IsAtEnd (Some self.old.left)) }
         ensures behind { IfOk result (λ n. drop n into.new ≡ drop n into.old) }
         ensures kept { OnErr result (Keeps (Some self.old.left) (Some self.new.left)) }
         ensures unchanged { OnErr result (into.new ≡ into.old) }
@@ -64,7 +76,8 @@ impl Source for MemorySource {
 
         // It fails at the listed calls and at no other.
         ensures fails { IsErr result ↔ Contains self.old.fail (next_count self.old.calls) }
-        ensures count { IfOk result (λ n. n ≡ min (length into.old) (length self.old.left)) }
+        ensures count { IfOk result (λ n.
+            n ≡ min (length into.old) (length self.old.left)) }
         ensures counted { OnErr result (self.new.faults ≡ next_count self.old.faults) }
         ensures called { self.new.calls ≡ next_count self.old.calls }
         ensures same_list { self.new.fail ≡ self.old.fail }
