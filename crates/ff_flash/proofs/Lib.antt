@@ -1,6 +1,5 @@
-pub mod BlockCells
-pub mod CellLists
-pub mod NextTurn
-pub mod Operations
+pub mod NextInjected
 pub mod PageSlots
 pub mod Rising
+pub mod SimCells
+pub mod SimOperations
