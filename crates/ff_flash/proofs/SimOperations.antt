@@ -3,7 +3,7 @@ use Rattle.std.proofs.Common.{◌≡◌, ◌<◌, ◌+◌, ◌*◌, ◌/◌, ◌
 use Rattle.std.specs.Prelude.{if◌then◌else◌, is_some, replicate, ◌==◌, Ok, Err, IsErrAnd}
 use Rattle.std.specs.Int.{bit_at}
 use Rattle.std.proofs.lemmas.Bool.{cases_Bool}
-use Rattle.std.proofs.lemmas.List.{get_or_default, same_lists, set-get_or}
+use Rattle.std.proofs.lemmas.List.{set-get_or}
 use Rattle.std.proofs.lemmas.Nat.Bits.{bit_at-zero}
 use Rattle.ff_flash.proofs.NextInjected.{cut_by}
 use Rattle.ff_flash.proofs.Rising.{count_next, count_within, none_passed}
@@ -66,10 +66,6 @@ idle (program bytes spare) cell = refl
 idle seal cell = refl
 idle (erase page) cell = refl
 
-either_same : (b : Bool) (cell : Cell) → (if b then cell else cell) ≡ cell
-either_same true cell = refl
-either_same false cell = refl
-
 -- with the power off the cells stay
 pub cells_off : (operation : Operation) (injected : Injected) (cells : List Cell) (at : ℕ) → injected ≡ PowerOff
     → cells_after operation injected cells at ≡ cells
@@ -77,17 +73,6 @@ cells_off operation injected cells at off =
     ap (λ (how : Injected). cells_after operation how cells at) off
     ∙ ap (λ (cell : Cell). set cells at cell) (idle operation (cell_at cells at))
     ∙ set-get_or cells at erased
-
-pub block_off : (n block : ℕ) (injected : Injected) (old new : List Cell) → injected ≡ PowerOff
-    → ChangesEach (cell_after_erase n block injected) old new → new ≡ old
-block_off n block injected old new off changes = same_lists new old changes.size (λ place d within.
-    let size = changes.size in
-    let inside : place < length old = omega arith in
-    get_or_default new place d erased within
-    ∙ changes.each place inside
-    ∙ ap (λ (how : Injected). cell_after_erase n block how place (cell_at old place)) off
-    ∙ either_same (place / n == block) (cell_at old place)
-    ∙ get_or_default old place erased d inside)
 
 -- an operation that was injected so went as the plan says
 pub page_by : (operation : Operation) (injected next : Injected) (old new : List Cell) (at : ℕ) → injected ≡ next
