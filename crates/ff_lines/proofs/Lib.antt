@@ -1,2 +1,5 @@
+pub mod DeviceLines
 mod MaskBits
+pub mod MaskLines
 pub mod Overlaid
+pub mod PageCounts

@@ -1,3 +1,4 @@
+// The overlay of a piece on a line.
 ghost use Rattle.std.specs.Prelude.{◌≡◌, ◌≤◌, ◌+◌, length};
 ghost use Rattle.ff_lines.specs.Overlay.{overlaid};
 
