@@ -3,18 +3,12 @@ use Rattle.std.proofs.Common.{◌≡◌, ◌≤◌, inl, inr, ℕ, ◌+◌, ◌=
 use Rattle.std.specs.Prelude.{All, if◌then◌else◌}
 use Rattle.std.proofs.lemmas.Bool.{or_parts, and_left}
 use Rattle.std.proofs.lemmas.List.Elements.{All-head, All-tail}
-use Rattle.ff_lines.specs.BlankLine.{blank_line}
 use Rattle.ff_lines.specs.DeviceState.{DeviceState, line_at, waits, IsDevice, SameLines, AllDrained, Drains, IsDrained, IsPosted, IsPinned}
 use Rattle.ff_lines.specs.Overlay.{overlaid}
 use Rattle.ff_lines.specs.Posts.{is_to, laid_on, laid, waits_in, IsPost}
 use Rattle.ff_lines.specs.Works.{KeepsLines}
 use Rattle.ff_lines.specs.declared.post.Post.{Post}
 use Rattle.ff_lines.proofs.Overlaid.{length-overlaid}
-
--- a line of zeros has 64 bytes
-pub length-blank_line : length blank_line ≡ 64
-unfolding blank_line
-length-blank_line = refl
 
 -- posts after posts
 pub laid-append : (page line : ℕ) (xs ys : List Post) (bytes : List ℕ)

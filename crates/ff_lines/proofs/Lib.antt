@@ -3,3 +3,4 @@ mod MaskBits
 pub mod MaskLines
 pub mod Overlaid
 pub mod PageCounts
+pub mod PageOverlaid

@@ -9,6 +9,6 @@ mod post;
 mod tests;
 
 pub use device::{LineDevice, Work};
-pub use line_bytes::overlay;
+pub use line_bytes::{overlay, overlay_page};
 pub use line_mask::LineMask;
 pub use post::Post;
