@@ -24,3 +24,15 @@ count_below-part part whole (suc n) inside =
     let before = count_below-part part whole n inside in
     let here = one_at_most (part n) (whole n) (inside n) in
     omega arith
+
+one_most : (b : Bool) → (if b then 1 else 0) ≤ 1
+one_most false = omega arith
+one_most true = omega arith
+
+-- a set has at most all pages
+pub count_below-most : (set : ℕ → Bool) (n : ℕ) → count_below set n ≤ n
+count_below-most set zero = omega arith
+count_below-most set (suc n) =
+    let before = count_below-most set n in
+    let here = one_most (set n) in
+    omega arith
