@@ -1,3 +1,4 @@
+// The persist marks of all pages.
 ghost use Rattle.std.specs.Prelude.{◌≡◌, ◌<◌, IfOk, length, List, ℕ, replicate, slice_set, slice_index};
 
 use crate::{NoMemory, PageNo};
@@ -23,6 +24,15 @@ impl Marks {
         ensures { IfOk result (λ marks. marks ≡ replicate pages 0) }
     {
         let masks = vec![in alloc; 0; pages as usize]?;
+        Ok(Marks { masks })
+    }
+
+    /// Equal marks.
+    pub fn copy(&self, alloc: Global) -> Result<Marks, NoMemory>
+        ensures { IfOk result (λ marks. marks ≡ self.now) }
+    {
+        let mut masks = Vec::with_capacity(alloc, self.masks.len())?;
+        masks.extend_from_slice(&self.masks)?;
         Ok(Marks { masks })
     }
 
