@@ -36,6 +36,18 @@ IsEntered entered Schedule = name_in entered ≡ Some (codes "schedule")
 IsEntered entered Threads = name_in entered ≡ Some (codes "threads")
 IsEntered entered (Load number) = (name_in entered ≡ Some (codes "load")) × HasNumber (number_in entered) number
 
+-- no number was given
+abbrev pub HasNoNumber : Option Text → Type 0
+HasNoNumber given = (number : ℕ) → HasNumber given number → ⊥
+
+-- no command was entered
+abbrev pub IsNoCommand : Option (Text × List Row) → Type 0
+IsNoCommand entered = (command : Command) → IsEntered entered command → ⊥
+
+-- the words enter no command
+abbrev pub EnterNone : List Text → Type 0
+EnterNone words = IsNoCommand (subcommand_of flatflash words)
+
 -- `clap` accepts the words and enters this command
 pub record AskFor (words : List Text) (command : Command) : Type 0 where
   pub accepted : fault_of flatflash words ≡ []

@@ -1,24 +1,24 @@
 // Reads the words of the command line.
-ghost use Rattle.std.specs.Prelude.{◌≡◌, [], IfOk, IfErr, MatchOption, map, string_bytes};
-ghost use Rattle.clap.specs.Words.{fault_of, found_of, kind_of, one_text, subcommand_of, subcommand_rows_of};
+ghost use Rattle.std.specs.Prelude.{◌≡◌, ◌⊎◌, [], IfOk, IfErr, MatchOption, Some, codes, map, string_bytes};
+ghost use Rattle.clap.specs.Words.{fault_of, found_of, kind_of, one_of, rows_of, subcommand_of, subcommand_rows_of};
 ghost use Rattle.clap.specs.declared.error.kind.ErrorKind.TheVariants as kind;
 ghost use Rattle.ff_words.specs.CommandLine.{flatflash};
-ghost use Rattle.ff_words.specs.Words.{AreRefused, AskFor, HasNumber, IsEntered};
+ghost use Rattle.ff_words.specs.Words.{AreRefused, AskFor, EnterNone, HasNoNumber, HasNumber, IsEntered, IsNoCommand};
 
 use crate::asked::{BadWords, Command};
 use crate::parser::parser;
 use clap::error::ErrorKind;
 use clap::{ArgMatches, Error};
-use std::alloc::{AllocError, Global};
+use std::alloc::Global;
 
 /// Reads the words of the command line, of which the first is the program's name. What they mean is what `clap`
 /// states of a command with the three subcommands.
 pub fn command(alloc: Global, words: &[String]) -> Result<Command, BadWords>
     ensures ok { IfOk result (AskFor (map string_bytes words.now)) }
-    ensures refused { IfErr result (λ cause. cause ≡ BadWords.Usage → AreRefused (map string_bytes words.now)) }
+    ensures refused { IfErr result (λ cause. cause ≡ BadWords.Usage → AreRefused (map string_bytes words.now) ⊎ EnterNone (map string_bytes words.now)) }
 {
     match matched(alloc, words) {
-        Ok(matches) => asked(&matches),
+        Ok(matches) => asked(&matches).ok_or(BadWords::Usage),
         Err(cause) => Err(cause),
     }
 }
@@ -47,24 +47,43 @@ fn refusal_of(error: &Error) -> BadWords
     }
 }
 
-fn asked(matches: &ArgMatches<'_>) -> Result<Command, BadWords>
+fn asked(matches: &ArgMatches<'_>) -> Option<Command>
+    ensures { MatchOption result (IsNoCommand (subcommand_rows_of matches.now)) (IsEntered (subcommand_rows_of matches.now)) }
 {
     match matches.subcommand() {
         Some((name, inner)) => entered(name, inner),
-        None => Err(BadWords::Usage),
+        None => None,
     }
 }
 
-fn entered(name: &str, matches: &ArgMatches<'_>) -> Result<Command, BadWords>
+fn entered(name: &str, matches: &ArgMatches<'_>) -> Option<Command>
+    ensures { MatchOption result (IsNoCommand (Some (name.now, rows_of (found_of matches.now))))
+        (IsEntered (Some (name.now, rows_of (found_of matches.now)))) }
 {
     if name == "schedule" {
-        return Ok(Command::Schedule);
+        Some(Command::Schedule)
+    } else if name == "threads" {
+        Some(Command::Threads)
+    } else if name == "load" {
+        load(matches)
+    } else {
+        None
     }
-    if name == "threads" {
-        return Ok(Command::Threads);
+}
+
+fn load(matches: &ArgMatches<'_>) -> Option<Command>
+    ensures { MatchOption result (IsNoCommand (Some (codes "load", rows_of (found_of matches.now))))
+        (IsEntered (Some (codes "load", rows_of (found_of matches.now)))) }
+{
+    match number(matches) {
+        Some(number) => Some(Command::Load(number)),
+        None => None,
     }
-    match matches.get_one::<u32>("N") {
-        Some(number) => Ok(Command::Load(number)),
-        None => Err(BadWords::Usage),
-    }
+}
+
+fn number(matches: &ArgMatches<'_>) -> Option<u32>
+    ensures { MatchOption result (HasNoNumber (one_of (codes "N") (rows_of (found_of matches.now))))
+        (HasNumber (one_of (codes "N") (rows_of (found_of matches.now)))) }
+{
+    matches.get_one::<u32>("N")
 }
