@@ -1,10 +1,9 @@
 -- Which command was entered.
-use Rattle.std.proofs.Common.{◌≡◌, ◌∙◌, ◌<◌, ◌^◌, ℕ, List, [], ◌∷◌, Option, Some, None, Result, Ok, Err, codes, get_or, refl, sym, ap, subst, arith}
+use Rattle.std.proofs.Common.{◌≡◌, ◌∙◌, ◌<◌, ◌^◌, ℕ, List, Option, Some, None, Result, Ok, Err, codes, get_or, refl, ap, subst, arith}
 use Rattle.std.specs.Prelude.{MatchOption}
 use Rattle.std.specs.Str.Parse.{IsNumeral, ParsesUnsigned, digits_value, without_leading_plus}
 use Rattle.clap.specs.Words.{ReadsOne, Row, Text, one_of}
-use Rattle.ff_words.specs.Words.{HasNoNumber, HasNumber, IsEntered, IsNoCommand, IsNumberText}
-use Rattle.ff_words.specs.declared.asked.Command.{Command}
+use Rattle.ff_words.specs.Words.{HasNoNumber, HasNumber, IsNoCommand}
 use Rattle.ff_words.specs.declared.asked.Command.TheVariants.{Schedule, Threads, Load}
 
 -- what a text reads as
