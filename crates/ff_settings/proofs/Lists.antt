@@ -9,7 +9,6 @@ use Rattle.std.specs.Map.{keys_of}
 use Rattle.toml.specs.Data.{Data}
 use Rattle.toml.specs.View.{items_view, members_view, view}
 use Rattle.toml.specs.declared.value.Value.{Value}
-use Rattle.ff_flash.specs.declared.plan.CutAt.{CutAt}
 use Rattle.ff_settings.specs.Bounds.{fits_in_cut}
 use Rattle.ff_settings.specs.Given.{as_cut, as_cuts, planned_cut}
 use Rattle.ff_settings.specs.Values.{keys_in, list_of, short}

@@ -1,8 +1,8 @@
 -- Settings within their bounds, and the first that isn't.
-use Rattle.std.proofs.Common.{◌≡◌, ◌<◌, ◌≤◌, ◌+◌, ℕ, zero, suc, Bool, true, false, List, [], ◌∷◌, length, Option, Some, None, cond, refl, sym, subst, ap, ◌∙◌, inl, inr, arith, lit<}
-use Rattle.std.specs.Prelude.{not, find, nat_le, nat_lt, ◌&&◌, ◌==◌, IfSome}
+use Rattle.std.proofs.Common.{◌≡◌, ◌<◌, ◌≤◌, ◌+◌, ℕ, Bool, true, false, List, [], ◌∷◌, length, Option, Some, None, cond, refl, sym, subst, ap, inl, inr, arith, lit<}
+use Rattle.std.specs.Prelude.{not, find, nat_le, ◌&&◌, ◌==◌, IfSome}
 use Rattle.std.specs.List.{AllByRecursion, list_all}
-use Rattle.std.proofs.lemmas.Bool.{and_parts, cases_Bool, cases_lt, cases_eq}
+use Rattle.std.proofs.lemmas.Bool.{and_parts, cases_Bool, cases_eq}
 use Rattle.std.proofs.lemmas.Bool.Decides.{nat_tests}
 use Rattle.ff_base.specs.Count.{last_event}
 use Rattle.ff_base.specs.Geometry.{IsAllowed, IsFirstBroken, IsWithinLimits, greatest_of, least_of, rank_of, value_of}
@@ -10,9 +10,9 @@ use Rattle.ff_base.specs.declared.geometry.Geometry.{Geometry}
 use Rattle.ff_base.specs.declared.limits.Limit.{Limit}
 use Rattle.ff_base.specs.declared.limits.LimitName.{LimitName}
 use Rattle.ff_base.specs.declared.limits.LimitName.TheVariants as limit
-use Rattle.ff_flash.specs.Plans.{IsPlan, RisesFrom, cut_at, cut_numbers, is_listed}
+use Rattle.ff_flash.specs.Plans.{RisesFrom, cut_at, cut_numbers, is_listed}
 use Rattle.ff_flash.specs.declared.plan.CutAt.{CutAt}
-use Rattle.ff_settings.specs.Bounds.{IsSettingsSound, are_cuts_beside, are_fails, event_fits, first_beyond, fits_in_cut, is_kept, is_within, rises_from, most_cuts, most_fails}
+use Rattle.ff_settings.specs.Bounds.{IsSettingsSound, event_fits, first_beyond, fits_in_cut, is_kept, is_within, rises_from, most_cuts, most_fails}
 use Rattle.ff_settings.specs.Names.{later_names, name_of, setting_names}
 use Rattle.ff_settings.specs.SettingsView.{SettingsView}
 use Rattle.ff_settings.specs.Values.{short}

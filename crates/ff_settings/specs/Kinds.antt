@@ -1,5 +1,5 @@
 -- Which kind the value of a setting has.
-use Rattle.std.specs.Prelude.{ℕ, Bool, true, false, ◌&&◌, List, Option, Some, None, codes, is_some}
+use Rattle.std.specs.Prelude.{Bool, true, false, ◌&&◌, Option, Some, None, codes, is_some}
 use Rattle.std.specs.List.{list_all}
 use Rattle.toml.specs.Data.{Data, array, table, Members, get_member, as_integer}
 use Rattle.ff_settings.specs.Names.{text_of, cut_keys}

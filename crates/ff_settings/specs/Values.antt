@@ -1,6 +1,6 @@
 -- What the values of a document are.
-use Rattle.std.specs.Prelude.{ℕ, ℤ, pos, negsuc, ◌-◌, ◌^◌, min, List, [], ◌∷◌, Option, Some, None, unwrap_or, option_map, option_and_then}
-use Rattle.toml.specs.Data.{Data, array, table, Items, no_items, item, Members, no_members, member, as_integer}
+use Rattle.std.specs.Prelude.{ℕ, ℤ, pos, negsuc, ◌-◌, ◌^◌, min, List, [], ◌∷◌, Option, Some, unwrap_or, option_map, option_and_then}
+use Rattle.toml.specs.Data.{Data, array, Items, no_items, item, Members, no_members, member, as_integer}
 
 -- the keys of members
 abbrev pub keys_in : Members → List (List ℕ)

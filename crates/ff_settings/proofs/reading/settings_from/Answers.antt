@@ -1,4 +1,4 @@
-use Rattle.std.proofs.Common.{◌≡◌, ◌∙◌, List, ℕ, ap, ap₂, subst, sym}
+use Rattle.std.proofs.Common.{◌∙◌, List, ℕ, ap, ap₂, subst, sym}
 use Rattle.ff_flash.specs.Plans.{Planned}
 use Rattle.ff_settings.specs.Bounds.{IsSettingsSound}
 use Rattle.ff_settings.specs.Given.{as_cuts, given_view}
