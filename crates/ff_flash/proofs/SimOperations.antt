@@ -1,7 +1,6 @@
 -- How the operations of a simulated flash go by its plan, and what they have in common.
-use Rattle.std.proofs.Common.{◌≡◌, ◌<◌, ◌+◌, ◌*◌, ◌/◌, ◌%◌, set, inl, inr, ℕ, Bool, true, false, List, [], length, Result, Option, Some, None, refl, sym, ap, subst, ◌∙◌, arith}
+use Rattle.std.proofs.Common.{◌≡◌, ◌+◌, ◌*◌, ◌/◌, ◌%◌, set, inl, inr, ℕ, Bool, true, false, List, [], length, Result, Option, Some, None, refl, sym, ap, subst, ◌∙◌, arith}
 use Rattle.std.specs.Prelude.{if◌then◌else◌, is_some, replicate, ◌==◌, Ok, Err, IsErrAnd}
-use Rattle.std.specs.Int.{bit_at}
 use Rattle.std.proofs.lemmas.Bool.{cases_Bool}
 use Rattle.std.proofs.lemmas.List.{set-get_or}
 use Rattle.std.proofs.lemmas.Nat.Bits.{bit_at-zero}
@@ -9,7 +8,7 @@ use Rattle.ff_flash.proofs.NextInjected.{cut_by}
 use Rattle.ff_flash.proofs.Rising.{count_next, count_within, none_passed}
 use Rattle.ff_flash.proofs.SimCells.{fresh_cells}
 use Rattle.ff_flash.specs.Cells.{Cell, Operation, program, seal, erase, erased, cell_after, cell_after_erase, cell_at, cells_after, ChangesEach}
-use Rattle.ff_flash.specs.FlashState.{CountsFaults, FlashState, Operates, SameFlash, UsesPower}
+use Rattle.ff_flash.specs.FlashState.{CountsFaults, Operates, UsesPower}
 use Rattle.ff_flash.specs.Injected.{Went, answer_of, stop_of}
 use Rattle.ff_flash.specs.Injector.{InjectorView, IsCutBy, IsInjectorSound, counted, injector_after, is_cut, is_powered, next_injected, power_after}
 use Rattle.ff_flash.specs.PageState.{cells_of}
@@ -17,7 +16,7 @@ use Rattle.ff_flash.specs.Plans.{Planned, IsPlan, is_listed, listed_count, cut_a
 use Rattle.ff_flash.specs.SimFlash.{HasPageBytes, IsSimFlashSound}
 use Rattle.ff_flash.specs.SimFlashFields.{flash_of}
 use Rattle.ff_flash.specs.declared.flash.FlashStop.{FlashStop}
-use Rattle.ff_flash.specs.declared.flash.FlashStop.TheVariants.{Failed, Off}
+use Rattle.ff_flash.specs.declared.flash.FlashStop.TheVariants.{Off}
 use Rattle.ff_flash.specs.declared.injected.Injected.{Injected}
 use Rattle.ff_flash.specs.declared.injected.Injected.TheVariants.{Nothing, Failure, Cut, PowerOff}
 use Rattle.ff_flash.specs.declared.injector.Power.{Power}

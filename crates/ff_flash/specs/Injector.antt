@@ -43,7 +43,9 @@ fresh_injector plan = record { plan = plan; operations = 0; power = On }
 -- how the next operation goes
 abbrev pub next_injected : InjectorView → Injected
 next_injected injector =
-    if is_powered injector.power then due_injected injector.plan (injector.operations + 1) else PowerOff
+    if is_powered injector.power
+    then due_injected injector.plan (injector.operations + 1)
+    else PowerOff
 
 -- the injector after one more operation with the power on
 abbrev pub counted : InjectorView → InjectorView
@@ -58,7 +60,8 @@ injector_after injector = if is_powered injector.power then counted injector els
 
 -- the injector after the power was turned off between two operations
 abbrev pub powered_down : InjectorView → InjectorView
-powered_down injector = if is_powered injector.power then record injector { power = Down } else injector
+powered_down injector =
+    if is_powered injector.power then record injector { power = Down } else injector
 
 -- where a cut turned the power off, it is this one
 abbrev pub IsCutBy : Power → Option CutAt → Type 0

@@ -27,4 +27,5 @@ HasSlot slots place slot = slice_index_or slots place None ≡ Some slot
 pub record AreSlots (slots : List (Option ℕ)) (used : ℕ) : Type 0 where
   pub free : free_count slots + used ≡ length slots
   pub each : (place slot : ℕ) → HasSlot slots place slot → slot < used
-  pub apart : (first second slot : ℕ) → HasSlot slots first slot → HasSlot slots second slot → first ≡ second
+  pub apart : (first second slot : ℕ)
+      → HasSlot slots first slot → HasSlot slots second slot → first ≡ second

@@ -33,7 +33,9 @@ fresh_flash geometry plan = record {
 -- how many posts arrive after the cut that turned the power off: what the plan's cut of the last operation says
 abbrev pub arrive_of_cut : FlashState → Option ℕ
 arrive_of_cut flash =
-    if flash.cut then option_map (λ cut. cut.arrive) (cut_at flash.operations (plan_in flash).cuts) else None
+    if flash.cut
+    then option_map (λ cut. cut.arrive) (cut_at flash.operations (plan_in flash).cuts)
+    else None
 
 -- a programmed page has as many bytes as a page
 abbrev pub HasPageBytes : Cell → Type 0

@@ -1,4 +1,4 @@
-use Rattle.std.proofs.Common.{ap, sym, ◌∙◌, arith, length, length-set, slice_set}
+use Rattle.std.proofs.Common.{ap, sym, ◌∙◌, arith, length-set, slice_set}
 use Rattle.ff_flash.proofs.SimCells.{full_cells, place_within, programmed_cells}
 use Rattle.ff_flash.proofs.SimOperations.{cells_off, operates_as, page_by, sound_after, went_page}
 use Rattle.ff_flash.specs.Cells.{program}
