@@ -1,8 +1,8 @@
 -- What a contract sees of a block table, and what the table keeps.
 use Rattle.std.specs.Prelude.{ℕ, ◌<◌, List, length, replicate, count_by, slice_index_or, slice_set}
-use Rattle.ff_base.specs.Geometry.{IsWithin}
+use Rattle.ff_base.specs.Geometry.{IsAllowed}
 use Rattle.ff_base.specs.declared.geometry.Geometry.{Geometry}
-use Rattle.ff_base.specs.declared.limits.TheConstants.{BLOCKS, PER_BLOCK}
+use Rattle.ff_base.specs.declared.limits.LimitName.TheVariants.{Blocks, PerBlock}
 use Rattle.ff_space.specs.Blocks.{IsBlockSound, erased_block, is_erased, waiting}
 use Rattle.ff_space.specs.declared.block.BlockEntry.{BlockEntry}
 
@@ -37,6 +37,6 @@ new_table geometry = record { per_block = geometry.per_block; blocks = replicate
 
 -- what a table keeps: its sizes are those of a geometry, and every block is sound
 pub record IsSound (table : TableView) : Type 0 where
-  pub per_block : IsWithin table.per_block PER_BLOCK.least PER_BLOCK.greatest
-  pub count : IsWithin (length table.blocks) BLOCKS.least BLOCKS.greatest
+  pub per_block : IsAllowed PerBlock table.per_block
+  pub count : IsAllowed Blocks (length table.blocks)
   pub each : (block : ℕ) → IsInRange table block → IsBlockSound table.per_block (block_at table block)
