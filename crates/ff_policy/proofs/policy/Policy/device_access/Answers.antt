@@ -1,4 +1,4 @@
-use Rattle.std.proofs.Common.{ℕ, ◌≡◌, length, get_or, set, length-set, ap, ◌∙◌, sym, arith}
+use Rattle.std.proofs.Common.{◌≡◌, length, get_or, set, length-set, ap, ◌∙◌, sym, arith}
 use Rattle.std.proofs.lemmas.List.{get_or_read, length-map, take_at}
 use Rattle.ff_policy.proofs.Ledger.{sum-counted, sum-halved}
 use Rattle.ff_policy.specs.Policy.{halved, raised_count}
