@@ -1,0 +1,11 @@
+-- The lines of a page, for every line number.
+use Rattle.std.specs.Prelude.{ℕ, List, nat_lt, replicate, if◌then◌else◌}
+use Rattle.ff_base.specs.Page.{line_of}
+
+-- a line of zeros
+unfoldable pub blank_line : List ℕ
+blank_line = replicate 64 0
+
+-- a line of a page, and a line of zeros past the page's last
+abbrev pub line_or_blank : List ℕ → ℕ → List ℕ
+line_or_blank page line = if nat_lt line 64 then line_of page line else blank_line
