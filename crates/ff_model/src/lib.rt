@@ -2,6 +2,7 @@
 //! from, and the flat byte array that the replies are those of.
 #![tactic(auto)]
 
+mod counts;
 mod flat;
 mod history;
 mod image;
@@ -10,6 +11,7 @@ mod piece;
 #[cfg(test)]
 mod tests;
 
+pub use counts::{Counts, Kind, KindTurns, TurnCounts};
 pub use flat::flat_byte;
 pub use history::{Entry, History};
 pub use image::Image;

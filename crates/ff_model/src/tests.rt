@@ -1,3 +1,4 @@
+// Calls, replies, histories and images, each public call once.
 ghost use Rattle.std.specs.Prelude.{◌≤◌, length};
 
 use super::*;
