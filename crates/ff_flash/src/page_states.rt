@@ -1,6 +1,6 @@
 // The simulated states of pages, without their bytes, and what operations make of them. Whatever bytes a page has,
 // its cell changes as an operation changes a cell.
-ghost use Rattle.std.specs.Prelude.{◌≡◌, ◌<◌, ◌≤◌, ◌+◌, ◌⊎◌, ℕ, List, IfOk, length, vec_len, replicate, slice_set, slice_index_or, if◌then◌else◌, ◌==◌};
+ghost use Rattle.std.specs.Prelude.{◌≡◌, ◌<◌, ◌≤◌, ◌+◌, ℕ, List, IfOk, vec_len, replicate, ◌==◌};
 ghost use Rattle.std.specs.Int.{bit_at};
 ghost use Rattle.ff_flash.specs.Cells.{cell_after, cell_probe, erase, program, seal};
 ghost use Rattle.ff_flash.specs.PageState.{ChangesState, ErasesStates, cell_of};
