@@ -1,13 +1,10 @@
-//! The text of a session: what was called, what was answered, one line each.
+//! The text of a session: what was called and what was answered, one line each.
 #![tactic(auto)]
 
+mod history;
 mod line;
-mod report;
-mod session;
 mod spelling;
-#[cfg(test)]
-mod tests;
+mod writing;
 
+pub use history::write_history;
 pub use line::{LINE_ROOM, Line};
-pub use report::write_session;
-pub use session::Session;

@@ -1,3 +1,4 @@
+// A line of text that is being spelled.
 ghost use Rattle.std.specs.Prelude.{◌≡◌, ◌≤◌, ◌+◌, ◌*◌, ◌++◌, [], decimal, length};
 ghost use Rattle.hex.specs.Hex.{encode_lower};
 ghost use Rattle.ff_report.specs.Text.{bytes_text};

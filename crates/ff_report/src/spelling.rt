@@ -1,6 +1,7 @@
+// The lines of a text.
 ghost use Rattle.std.specs.Prelude.{◌≡◌, ◌≤◌, ◌+◌, ◌++◌, length};
 ghost use Rattle.ff_model.specs.declared.op.Op.TheVariants.{Load, Store};
-ghost use Rattle.ff_report.specs.Text.{entry_line, lines_text, op_text, reply_text, session_line};
+ghost use Rattle.ff_report.specs.Text.{end_line, entry_line, op_text, range_text, reply_text, session_line};
 
 use crate::line::{LINE_ROOM, Line};
 use ff_base::{PAGE_LINES, PageNo};
@@ -8,11 +9,12 @@ use ff_model::{Entry, Op, Piece, Reply};
 
 const OP_ROOM: usize = 145;
 
-const LINES_ROOM: usize = 32;
+const RANGE_ROOM: usize = 32;
 
 const REPLY_ROOM: usize = 128;
 
 /// The line that opens the text of a session.
+#[tactic(auto, unfolding(crate::specs::Text::session_line))]
 pub fn session_line_of(at: u32) -> Line
     ensures { result ≡ session_line at }
 {
@@ -20,6 +22,16 @@ pub fn session_line_of(at: u32) -> Line
     line.text(b"session ");
     line.number(at);
     line.text(b"\n");
+    line
+}
+
+/// The line that ends a text.
+#[tactic(auto, unfolding(crate::specs::Text::end_line))]
+pub fn end_line_of() -> Line
+    ensures { result ≡ end_line }
+{
+    let mut line = Line::new();
+    line.text(b"end\n");
     line
 }
 
@@ -51,11 +63,11 @@ fn append_op(line: &mut Line, op: &Op)
         Op::Verify => line.text(b"verify"),
         Op::Mark { page, from, count } => {
             line.text(b"mark ");
-            append_lines(line, *page, *from, *count);
+            append_range(line, *page, *from, *count);
         }
         Op::Release { page, from, count } => {
             line.text(b"release ");
-            append_lines(line, *page, *from, *count);
+            append_range(line, *page, *from, *count);
         }
     }
 }
@@ -82,10 +94,10 @@ fn append_store(line: &mut Line, at: u32, bytes: &Piece)
     line.bytes(bytes.as_slice());
 }
 
-fn append_lines(line: &mut Line, page: PageNo, from: u32, count: u32)
-    requires { length line.old + LINES_ROOM ≤ LINE_ROOM }
-    ensures text { line.new ≡ line.old ++ lines_text page.0 from count }
-    ensures size { length line.new ≤ length line.old + LINES_ROOM }
+fn append_range(line: &mut Line, page: PageNo, from: u32, count: u32)
+    requires { length line.old + RANGE_ROOM ≤ LINE_ROOM }
+    ensures text { line.new ≡ line.old ++ range_text page.0 from count }
+    ensures size { length line.new ≤ length line.old + RANGE_ROOM }
 {
     line.number(page.0);
     if from == 0 && count as usize == PAGE_LINES {
