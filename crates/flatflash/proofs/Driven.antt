@@ -1,5 +1,5 @@
 -- What one row more changes of a core that answers rows.
-use Rattle.std.proofs.Common.{◌≡◌, ◌+◌, ◌<◌, ◌^◌, ℕ, zero, suc, true, List, [], ◌∷◌, ◌++◌, length, get_or, map, refl, sym, ap, ◌∙◌, arith, length-append}
+use Rattle.std.proofs.Common.{◌≡◌, ◌+◌, ◌<◌, ◌^◌, ℕ, zero, suc, true, List, [], ◌∷◌, ◌++◌, length, get_or, refl, sym, ap, ◌∙◌, arith, length-append}
 use Rattle.std.specs.Prelude.{◌==◌}
 use Rattle.std.proofs.lemmas.Bool.{eqb-true}
 use Rattle.std.proofs.lemmas.List.{length-map, map-append}
@@ -12,7 +12,7 @@ use Rattle.ff_model.specs.declared.history.Entry.{Entry}
 use Rattle.ff_model.proofs.AppendedCalls.{AreNumbered-append, entries_of-append_same}
 use Rattle.ff_trace.specs.declared.row.Row.{Row}
 use Rattle.ff_trace.specs.declared.row.Row.TheVariants.{Call}
-use Rattle.flatflash.specs.Runs.{AreOfOneCaller, HasAnswered, IsFirstSession, after_row, caller_of, rows_of}
+use Rattle.flatflash.specs.Runs.{AreOfOneCaller, HasAnswered, IsFirstSession, after_row, caller_of}
 
 -- the caller of one of the rows
 pub caller_at : (rows : List Row) (i : ℕ) (row : Row) → AreOfOneCaller rows → i < length rows

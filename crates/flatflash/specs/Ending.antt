@@ -17,8 +17,8 @@ use Rattle.flatflash.specs.declared.session.Session.{Session}
 abbrev pub End : Type 0
 End = Result (List Session) Refusal
 
--- why a run is refused. Each cause says that those before it don't hold; want of memory has none, and
--- no read failed before it.
+-- why a run is refused. Each cause says that those before it don't hold; want of memory has none,
+-- and no read failed before it.
 abbrev pub IsRefused : Bool → SourceChange → Refusal → Type 0
 IsRefused has_words source refusal.NoMemory = HasNoFault source
 IsRefused has_words source refusal.Usage = (has_words ≡ false) × Untouched source
@@ -39,8 +39,8 @@ IsEnd has_words source (Ok sessions) =
     (has_words ≡ true) × (rows : List Row) × ReadsRows source rows × AreSessionsOf rows sessions
 IsEnd has_words source (Err why) = IsRefused has_words source why
 
--- a sink before and after a call: the bytes that it holds, where it tells them, and how often it has
--- failed
+-- a sink before and after a call: the bytes that it holds, where it tells them, and how often it
+-- has failed
 pub record SinkChange : Type 0 where
   pub before : Option (List ℕ)
   pub after : Option (List ℕ)
@@ -112,7 +112,8 @@ pub record FailsToTell (sink : SinkChange) (end : End) (status : ℕ) : Type 0 w
   pub no_fall : sink.faults_before ≤ sink.faults_after
 
 -- what is answered and written for an end
-pub record Tells (sink : SinkChange) (end : End) (status : ℕ) (sessions : List Session) : Type 0 where
+pub record Tells (sink : SinkChange) (end : End) (status : ℕ)
+    (sessions : List Session) : Type 0 where
   pub sessions_are : sessions ≡ end_sessions end
   pub told : TellsAll sink end status ⊎ FailsToTell sink end status
 
@@ -121,7 +122,8 @@ abbrev pub EndsAndTells : Bool → SourceChange → SinkChange → ℕ → List 
 EndsAndTells has_words source sink status sessions =
     (end : End) × IsEnd has_words source end × Tells sink end status sessions
 
--- the status after the sink was flushed: where that fails, 5 stands in the place of every other but 6
+-- the status after the sink was flushed: where that fails, 5 stands in the place of every other
+-- but 6
 abbrev pub flushed_status : {E : Type 0} → Result Unit E → ℕ → ℕ
 flushed_status (Ok done) status = status
 flushed_status (Err why) status = if status == 6 then 6 else 5

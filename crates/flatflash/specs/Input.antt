@@ -14,8 +14,8 @@ input_limit = 67108864
 abbrev pub chunk_size : ℕ
 chunk_size = 65536
 
--- a source before and after a call: the bytes that it has left, where it tells them, and how often it
--- has failed
+-- a source before and after a call: the bytes that it has left, where it tells them, and how often
+-- it has failed
 pub record SourceChange : Type 0 where
   pub before : Option (List ℕ)
   pub after : Option (List ℕ)

@@ -35,9 +35,9 @@ pub record HasAnswered (core : CoreView) (rows : List Row) : Type 0 where
   pub numbers : (caller : ℕ) → AreNumbered caller core.entries
   pub calls : rows_of core.entries ≡ rows
 
--- a first session: it starts from nothing, at event 0 over a flash that has never failed; its history
--- is legal, no call met a fault, and each took one event; each caller's calls are numbered from 0,
--- and all of them are these rows in order
+-- a first session: it starts from nothing, at event 0 over a flash that has never failed; its
+-- history is legal, no call met a fault, and each took one event; each caller's calls are numbered
+-- from 0, and all of them are these rows in order
 pub record IsFirstSession (session : Session) (rows : List Row) : Type 0 where
   pub geometry : session.account.geometry ≡ default_geometry
   pub opening : opening_from session.base session.account ≡ fresh_opening default_geometry

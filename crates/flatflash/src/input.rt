@@ -28,7 +28,8 @@ pub enum BadInput {
 /// `INPUT_LIMIT + 1` of them. Room for all is reserved once, and takes memory as it is used.
 pub fn read_all<S: Source>(alloc: Global, source: &mut S) -> Result<Vec<u8>, BadInput>
     ensures ok { IfOk result (λ bytes.
-        ReadsWhole (source_change S.left S.faults source.old source.new) (λ input. input ≡ bytes.items)) }
+        ReadsWhole (source_change S.left S.faults source.old source.new)
+        (λ input. input ≡ bytes.items)) }
     ensures err { IfErr result
         (IsInputCause (source_change S.left S.faults source.old source.new)) }
 {

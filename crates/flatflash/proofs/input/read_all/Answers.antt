@@ -1,7 +1,6 @@
-use Rattle.std.proofs.Common.{◌≡◌, ◌≤◌, ◌<◌, ◌+◌, ◌++◌, ◌∙◌, length, take, subst, arith, length-append}
+use Rattle.std.proofs.Common.{◌≤◌, ◌<◌, ◌++◌, ◌∙◌, length, take, arith, length-append}
 use Rattle.std.proofs.lemmas.List.{length-take}
 use Rattle.std.proofs.KnownBytes.{Consumes-kept, Consumes-trans}
-use Rattle.ff_base.specs.Count.{Rose}
 use Rattle.flatflash.proofs.Taken.{takes_from}
 use Rattle.flatflash.proofs.input.read_all.Goals as goal
 
@@ -24,11 +23,27 @@ returns-then-len-gt-INPUT_LIMIT-clause-err g c =
     let front = take c.in-Ok.count c.read.new.into in
     let size = c.append_reserved.ensures.len in
     let more : 67108864 < length (c.loop.bytes.items ++ front) =
-    omega (arith, size, c.if-len-gt-INPUT_LIMIT.true, c.len.ensures, read.bound, c.read.auto.into,
-    length-append c.loop.bytes.items front, length-take c.in-Ok.count c.read.new.into, length-take c.in-Ok.count c.deref.result.now) in
+    omega (
+      arith,
+      size,
+      c.if-len-gt-INPUT_LIMIT.true,
+      c.len.ensures,
+      read.bound,
+      c.read.auto.into,
+      length-append c.loop.bytes.items front,
+      length-take c.in-Ok.count c.read.new.into,
+      length-take c.in-Ok.count c.deref.result.now,
+    ) in
     let most : length (c.loop.bytes.items ++ front) ≤ 67174400 =
-    omega (arith, read.bound, c.deref_mut.ensures.len, loop.chunk, loop.size,
-    length-append c.loop.bytes.items front, length-take c.in-Ok.count c.read.new.into) in
+    omega (
+      arith,
+      read.bound,
+      c.deref_mut.ensures.len,
+      loop.chunk,
+      loop.size,
+      length-append c.loop.bytes.items front,
+      length-take c.in-Ok.count c.read.new.into,
+    ) in
     record {
       bytes = takes_from _ _ (c.loop.bytes.items ++ front) _ taken (more, most);
       faults = read.faults ∙ loop.faults;

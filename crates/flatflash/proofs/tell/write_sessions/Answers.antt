@@ -1,4 +1,4 @@
-use Rattle.std.proofs.Common.{◌∙◌, ◌++◌, ap, refl, sym, take}
+use Rattle.std.proofs.Common.{◌∙◌, ◌++◌, ap, sym, take}
 use Rattle.ff_report.specs.Text.{history_text}
 use Rattle.ff_report.proofs.InOrder.{Wrote-failed, Wrote-then}
 use Rattle.flatflash.specs.Ending.{sessions_text}
