@@ -1,7 +1,7 @@
 use Rattle.std.proofs.Common.{take, Ok}
-use Rattle.ff_report.specs.Text.{entries_text}
+use Rattle.ff_report.specs.EntryText.{entries_text}
 use Rattle.ff_report.specs.Wrote.{Wrote}
-use Rattle.ff_report.proofs.history.write_entries.Given as goal
+use Rattle.ff_report.proofs.calls.write_entries.Given as goal
 
 abbrev pub invariant-loop-entry : goal.invariant-loop-entry
 invariant-loop-entry g l =

@@ -1,6 +1,6 @@
-use Rattle.ff_report.specs.Text.{entry_line}
+use Rattle.ff_report.specs.EntryText.{entry_line}
 use Rattle.ff_report.proofs.InOrder.{Wrote-stopped}
-use Rattle.ff_report.proofs.history.write_entries.Goals as goal
+use Rattle.ff_report.proofs.calls.write_entries.Goals as goal
 
 pub returns-in-Err : goal.returns-in-Err
 returns-in-Err g c =

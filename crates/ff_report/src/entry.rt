@@ -1,7 +1,7 @@
-// The lines of a text.
+// Spells the line of an answered call.
 ghost use Rattle.std.specs.Prelude.{◌≡◌, ◌≤◌, ◌+◌, ◌++◌, length};
 ghost use Rattle.ff_model.specs.declared.op.Op.TheVariants.{Load, Store};
-ghost use Rattle.ff_report.specs.Text.{end_line, entry_line, op_text, range_text, reply_text, session_line};
+ghost use Rattle.ff_report.specs.EntryText.{entry_line, op_text, range_text, reply_text};
 
 use crate::line::{LINE_ROOM, Line};
 use ff_base::{PAGE_LINES, PageNo};
@@ -13,30 +13,8 @@ const RANGE_ROOM: usize = 32;
 
 const REPLY_ROOM: usize = 128;
 
-/// The line that opens the text of a session.
-#[tactic(auto, unfolding(crate::specs::Text::session_line))]
-pub fn session_line_of(at: u32) -> Line
-    ensures { result ≡ session_line at }
-{
-    let mut line = Line::new();
-    line.text(b"session ");
-    line.number(at);
-    line.text(b"\n");
-    line
-}
-
-/// The line that ends a text.
-#[tactic(auto, unfolding(crate::specs::Text::end_line))]
-pub fn end_line_of() -> Line
-    ensures { result ≡ end_line }
-{
-    let mut line = Line::new();
-    line.text(b"end\n");
-    line
-}
-
 /// The line of an entry.
-#[tactic(auto, unfolding(crate::specs::Text::entry_line))]
+#[tactic(auto, unfolding(crate::specs::EntryText::entry_line))]
 pub fn entry_line_of(entry: &Entry) -> Line
     ensures { result ≡ entry_line entry.now }
 {
