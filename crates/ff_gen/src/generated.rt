@@ -58,7 +58,8 @@ fn mark_row(caller: u16) -> Row
 }
 
 fn push_rows(rows: &mut Vec<Row>, number: u32, draws: &mut Draws) -> Result<(), NoMemory>
-    ensures rows { OnOk result (rows.new.items ≡ rows.old.items ++ rows_of (number, (call_from draws.old.state).op)) }
+    ensures rows { OnOk result
+        (rows.new.items ≡ rows.old.items ++ rows_of (number, (call_from draws.old.state).op)) }
     ensures state { OnOk result (draws.new.state ≡ (call_from draws.old.state).state) }
 {
     rows.push(Row::Call {

@@ -24,7 +24,8 @@ most_cuts = 16
 -- a number of a geometry keeps its bounds
 unfoldable pub is_kept : Geometry → LimitName → Bool
 is_kept geometry name =
-    nat_le (least_of name) (value_of geometry name) && nat_le (value_of geometry name) (greatest_of name)
+    nat_le (least_of name) (value_of geometry name)
+    && nat_le (value_of geometry name) (greatest_of name)
 
 -- the numbers rise, from the least on and at most to the last number of an event
 abbrev pub rises_from : ℕ → List ℕ → Bool

@@ -89,7 +89,8 @@ answer_within settings = unless (first_beyond settings) (λ name. bad.Bound name
 -- the same, where all have their kind
 abbrev pub answer_of_kinds : Members → Result SettingsView BadSettings
 answer_of_kinds members =
-    unless (first_of_other_kind members) (λ name. bad.Kind name) (answer_within (settings_in members))
+    unless (first_of_other_kind members) (λ name. bad.Kind name)
+    (answer_within (settings_in members))
 
 -- the answer to a document: keys are looked at first, then kinds, then bounds
 abbrev pub answer_in : Bool → Members → Result SettingsView BadSettings
@@ -107,7 +108,8 @@ IsReadAs bytes (Some members) = IsUtf8 bytes × (parse_document bytes ≡ Some m
 IsReadAs bytes None = IsUtf8 bytes → parse_document bytes ≡ None
 
 -- this is the answer to the bytes
-pub record IsAnswer (bytes : List ℕ) (threads : Bool) (answer : Result SettingsView BadSettings) : Type 0 where
+pub record IsAnswer (bytes : List ℕ) (threads : Bool)
+    (answer : Result SettingsView BadSettings) : Type 0 where
   pub document : Option Members
   pub read : IsReadAs bytes document
   pub answered : answer_of threads document ≡ answer

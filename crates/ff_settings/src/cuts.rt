@@ -41,7 +41,8 @@ fn is_cut(value: &Value) -> bool
 }
 
 fn has_cut_numbers(table: &Table) -> bool
-    ensures { result ≡ list_all (λ key. is_some (number_of (get_member key (table_view table.now)))) cut_keys }
+    ensures { result
+        ≡ list_all (λ key. is_some (number_of (get_member key (table_view table.now)))) cut_keys }
 {
     has_number(table, "at") && has_number(table, "mask") && has_number(table, "arrive")
 }
@@ -54,7 +55,8 @@ fn has_number(table: &Table, key: &str) -> bool
 
 /// The cuts of a list.
 pub(crate) fn cuts_of(alloc: Global, values: &[Value]) -> Result<Vec<WideCut>, AllocError>
-    ensures { IfOk result (λ cuts. as_cuts cuts.items ≡ map (λ value. cut_of (view value)) values.now) }
+    ensures { IfOk result (λ cuts. as_cuts cuts.items ≡ map
+        (λ value. cut_of (view value)) values.now) }
 {
     let mut cuts = Vec::with_capacity(alloc, values.len())?;
     for value in values {
@@ -88,7 +90,8 @@ fn cut_in(table: &Table) -> WideCut
 
 /// The cuts of a plan.
 pub(crate) fn planned_cuts(alloc: Global, cuts: &[WideCut]) -> Result<Vec<CutAt>, AllocError>
-    ensures { IfOk result (λ planned. planned.items ≡ map (λ cut. planned_cut (as_cut cut)) cuts.now) }
+    ensures { IfOk result (λ planned. planned.items ≡ map
+        (λ cut. planned_cut (as_cut cut)) cuts.now) }
 {
     cuts.iter().map(|cut| planned_cut(cut)).collect(alloc)
 }

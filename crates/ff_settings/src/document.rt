@@ -10,7 +10,8 @@ use toml::{Table, Value};
 
 /// The table that the bytes are, if they are a document.
 pub(crate) fn document(alloc: Global, bytes: &[u8]) -> Result<Option<Table>, AllocError>
-    ensures { IfOk result (λ read. IsReadAs bytes.now (option_map (λ table. table_view table) read)) }
+    ensures { IfOk result (λ read. IsReadAs bytes.now (option_map
+        (λ table. table_view table) read)) }
 {
     match toml::table_from_slice(alloc, bytes) {
         Ok(table) => Ok(Some(table)),

@@ -30,11 +30,14 @@ pub(crate) struct Given {
     pub power_arrive: u64,
 }
 
-/// Reads the settings of a run from a TOML document, an empty one too. The keys of the power are allowed under
-/// `threads` alone. Keys that are missing have the defaults.
+/// Reads the settings of a run from a TOML document, an empty one too. `power_event` and `power_arrive` are
+/// keys under `threads` alone. What is missing has its default. Keys are looked at before kinds, and kinds
+/// before bounds; of these the first setting in the order of `SettingName` is told.
 pub fn settings(alloc: Global, bytes: &[u8], threads: bool) -> Result<Settings, BadSettings>
-    ensures ok { IfOk result (λ settings. IsAnswer bytes.now threads (Ok (settings_view settings))) }
-    ensures err { IfErr result (λ cause. cause ≢ BadSettings.NoMemory → IsAnswer bytes.now threads (Err cause)) }
+    ensures ok { IfOk result (λ settings.
+        IsAnswer bytes.now threads (Ok (settings_view settings))) }
+    ensures err { IfErr result (λ cause. cause ≢ BadSettings.NoMemory
+        → IsAnswer bytes.now threads (Err cause)) }
     ensures fit { IfOk result (λ settings. IsSettingsSound (settings_view settings)) }
 {
     match document(alloc, bytes) {
@@ -45,8 +48,10 @@ pub fn settings(alloc: Global, bytes: &[u8], threads: bool) -> Result<Settings, 
 }
 
 fn settings_in(alloc: Global, table: &Table, threads: bool) -> Result<Settings, BadSettings>
-    ensures ok { IfOk result (λ settings. answer_in threads (table_view table.now) ≡ Ok (settings_view settings)) }
-    ensures err { IfErr result (λ cause. cause ≢ BadSettings.NoMemory → answer_in threads (table_view table.now) ≡ Err cause) }
+    ensures ok { IfOk result (λ settings.
+        answer_in threads (table_view table.now) ≡ Ok (settings_view settings)) }
+    ensures err { IfErr result (λ cause. cause ≢ BadSettings.NoMemory
+        → answer_in threads (table_view table.now) ≡ Err cause) }
     ensures fit { IfOk result (λ settings. IsSettingsSound (settings_view settings)) }
 {
     if has_known_keys(table, threads) {
@@ -57,8 +62,10 @@ fn settings_in(alloc: Global, table: &Table, threads: bool) -> Result<Settings, 
 }
 
 fn settings_of_kinds(alloc: Global, table: &Table) -> Result<Settings, BadSettings>
-    ensures ok { IfOk result (λ settings. answer_of_kinds (table_view table.now) ≡ Ok (settings_view settings)) }
-    ensures err { IfErr result (λ cause. cause ≢ BadSettings.NoMemory → answer_of_kinds (table_view table.now) ≡ Err cause) }
+    ensures ok { IfOk result (λ settings.
+        answer_of_kinds (table_view table.now) ≡ Ok (settings_view settings)) }
+    ensures err { IfErr result (λ cause. cause ≢ BadSettings.NoMemory
+        → answer_of_kinds (table_view table.now) ≡ Err cause) }
     ensures fit { IfOk result (λ settings. IsSettingsSound (settings_view settings)) }
 {
     match first_of_other_kind(table) {
@@ -68,8 +75,10 @@ fn settings_of_kinds(alloc: Global, table: &Table) -> Result<Settings, BadSettin
 }
 
 fn settings_given(alloc: Global, table: &Table) -> Result<Settings, BadSettings>
-    ensures ok { IfOk result (λ settings. answer_within (settings_in (table_view table.now)) ≡ Ok (settings_view settings)) }
-    ensures err { IfErr result (λ cause. cause ≢ BadSettings.NoMemory → answer_within (settings_in (table_view table.now)) ≡ Err cause) }
+    ensures ok { IfOk result (λ settings.
+        answer_within (settings_in (table_view table.now)) ≡ Ok (settings_view settings)) }
+    ensures err { IfErr result (λ cause. cause ≢ BadSettings.NoMemory
+        → answer_within (settings_in (table_view table.now)) ≡ Err cause) }
     ensures fit { IfOk result (λ settings. IsSettingsSound (settings_view settings)) }
 {
     match read(alloc, table) {
@@ -79,8 +88,10 @@ fn settings_given(alloc: Global, table: &Table) -> Result<Settings, BadSettings>
 }
 
 fn settings_within(alloc: Global, given: Given) -> Result<Settings, BadSettings>
-    ensures ok { IfOk result (λ settings. answer_within (given_view given) ≡ Ok (settings_view settings)) }
-    ensures err { IfErr result (λ cause. cause ≢ BadSettings.NoMemory → answer_within (given_view given) ≡ Err cause) }
+    ensures ok { IfOk result (λ settings.
+        answer_within (given_view given) ≡ Ok (settings_view settings)) }
+    ensures err { IfErr result (λ cause. cause ≢ BadSettings.NoMemory
+        → answer_within (given_view given) ≡ Err cause) }
     ensures fit { IfOk result (λ settings. IsSettingsSound (settings_view settings)) }
 {
     match first_beyond(&given) {
@@ -115,7 +126,8 @@ fn settings_from(alloc: Global, given: Given) -> Result<Settings, BadSettings>
 
 fn plan(alloc: Global, fail: Vec<u64>, cuts: &[WideCut]) -> Result<Plan, AllocError>
     requires { list_all fits_in_cut (as_cuts cuts.now) ≡ true }
-    ensures { IfOk result (λ plan. planned_of plan ≡ record { fail = fail.items; cuts = as_cuts cuts.now }) }
+    ensures { IfOk result (λ plan.
+        planned_of plan ≡ record { fail = fail.items; cuts = as_cuts cuts.now }) }
 {
     match planned_cuts(alloc, cuts) {
         Ok(cuts) => Ok(Plan { fail, cuts }),

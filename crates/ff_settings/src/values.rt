@@ -105,7 +105,8 @@ pub(crate) fn are_numbers(values: &[Value]) -> bool
 
 /// The whole numbers of a list.
 pub(crate) fn numbers_of(alloc: Global, values: &[Value]) -> Result<Vec<u64>, AllocError>
-    ensures { IfOk result (λ numbers. numbers.items ≡ map (λ value. number_or 0 (Some (view value))) values.now) }
+    ensures { IfOk result (λ numbers. numbers.items ≡ map
+        (λ value. number_or 0 (Some (view value))) values.now) }
 {
     let mut numbers = Vec::with_capacity(alloc, values.len())?;
     for value in values {

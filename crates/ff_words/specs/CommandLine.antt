@@ -29,5 +29,7 @@ named = record (new_app (codes "flatflash")) {
 -- the program's command line
 unfoldable pub flatflash : App
 flatflash =
-    with_subcommand (with_subcommand (with_subcommand named (new_app (codes "schedule")).top) (new_app (codes "threads")).top)
+    with_subcommand
+    (with_subcommand (with_subcommand named (new_app (codes "schedule")).top)
+    (new_app (codes "threads")).top)
     load_app.top

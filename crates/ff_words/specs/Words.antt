@@ -34,7 +34,8 @@ pub record HasNumber (given : Option Text) (number : ℕ) : Type 0 where
 abbrev pub IsEntered : Option (Text × List Row) → Command → Type 0
 IsEntered entered Schedule = name_in entered ≡ Some (codes "schedule")
 IsEntered entered Threads = name_in entered ≡ Some (codes "threads")
-IsEntered entered (Load number) = (name_in entered ≡ Some (codes "load")) × HasNumber (number_in entered) number
+IsEntered entered (Load number) =
+    (name_in entered ≡ Some (codes "load")) × HasNumber (number_in entered) number
 
 -- no number was given
 abbrev pub HasNoNumber : Option Text → Type 0

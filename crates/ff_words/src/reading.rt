@@ -15,7 +15,8 @@ use std::alloc::Global;
 /// states of a command with the three subcommands.
 pub fn command(alloc: Global, words: &[String]) -> Result<Command, BadWords>
     ensures ok { IfOk result (AskFor (map string_bytes words.now)) }
-    ensures refused { IfErr result (λ cause. cause ≡ BadWords.Usage → AreRefused (map string_bytes words.now) ⊎ EnterNone (map string_bytes words.now)) }
+    ensures refused { IfErr result (λ cause. cause ≡ BadWords.Usage
+        → AreRefused (map string_bytes words.now) ⊎ EnterNone (map string_bytes words.now)) }
 {
     match matched(alloc, words) {
         Ok(matches) => asked(&matches).ok_or(BadWords::Usage),
@@ -24,9 +25,12 @@ pub fn command(alloc: Global, words: &[String]) -> Result<Command, BadWords>
 }
 
 fn matched<'a>(alloc: Global, words: &'a [String]) -> Result<ArgMatches<'a>, BadWords>
-    ensures accepted { IfOk result (λ m. fault_of flatflash (map string_bytes words.entry.now) ≡ []) }
-    ensures rows { IfOk result (λ m. subcommand_rows_of m ≡ subcommand_of flatflash (map string_bytes words.entry.now)) }
-    ensures refused { IfErr result (λ cause. cause ≡ BadWords.Usage → AreRefused (map string_bytes words.entry.now)) }
+    ensures accepted { IfOk result (λ m.
+        fault_of flatflash (map string_bytes words.entry.now) ≡ []) }
+    ensures rows { IfOk result (λ m.
+        subcommand_rows_of m ≡ subcommand_of flatflash (map string_bytes words.entry.now)) }
+    ensures refused { IfErr result (λ cause. cause ≡ BadWords.Usage
+        → AreRefused (map string_bytes words.entry.now)) }
 {
     let Ok(parser) = parser(alloc) else {
         return Err(BadWords::NoMemory);
@@ -48,7 +52,8 @@ fn refusal_of(error: &Error) -> BadWords
 }
 
 fn asked(matches: &ArgMatches<'_>) -> Option<Command>
-    ensures { MatchOption result (IsNoCommand (subcommand_rows_of matches.now)) (IsEntered (subcommand_rows_of matches.now)) }
+    ensures { MatchOption result (IsNoCommand (subcommand_rows_of matches.now))
+        (IsEntered (subcommand_rows_of matches.now)) }
 {
     match matches.subcommand() {
         Some((name, inner)) => entered(name, inner),
