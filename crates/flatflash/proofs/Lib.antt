@@ -1,3 +1,4 @@
+pub mod Callers
 pub mod Driven
 pub mod Taken
 pub mod Told

@@ -1,24 +1,22 @@
-ghost use Rattle.std.specs.Prelude.{◌≡◌, ◌≤◌, ◌<◌, ◌+◌, ◌++◌, ◌∷◌, [], true, length, map, vec_len, Ok, IfOk, IfErr};
-ghost use Rattle.std.specs.List.{range_with_len};
+// A run: the input's rows, and the session that answers them.
+ghost use Rattle.std.specs.Prelude.{◌≡◌, ◌≤◌, ◌<◌, [], true, length, map, vec_len, Ok, IfOk, IfErr};
 ghost use Rattle.std.specs.String.{string_bytes};
 ghost use Rattle.ff_base.specs.Geometry.{default_geometry};
-ghost use Rattle.ff_core.specs.CoreState.{fresh_opening, fresh_state};
-ghost use Rattle.ff_model.specs.Image.{empty_content};
-ghost use Rattle.ff_model.specs.Legal.{IsLegal};
-ghost use Rattle.ff_trace.specs.Trace.{IsTrace};
-ghost use Rattle.flatflash.specs.Ending.{IsEnd, IsRefused, rows_of};
-ghost use Rattle.flatflash.specs.Input.{HasTrace, ReadsWhole, reads_of};
+ghost use Rattle.ff_core.specs.Core.{fresh_core};
+ghost use Rattle.ff_trace.specs.Trace.{most_rows};
+ghost use Rattle.flatflash.specs.Ending.{IsEnd, IsRefused, ReadsRows};
+ghost use Rattle.flatflash.specs.Input.{source_change};
+ghost use Rattle.flatflash.specs.Runs.{AreOfOneCaller, HasAnswered, IsFirstSession, after_row};
 ghost use Rattle.flatflash.specs.Words.{is_schedule};
-ghost use Rattle.flatflash.specs.Runs.{RunsRows, after_row};
 
-use crate::input::{read_all, trace_bytes};
+use crate::input::{BadInput, read_all, trace_bytes};
 use crate::refusal::Refusal;
+use crate::session::Session;
 use crate::words::asks_to_schedule;
-use ff_base::Geometry;
+use ff_base::{Geometry, NoMemory};
 use ff_core::{Core, Room};
 use ff_io::Source;
-use ff_report::Session;
-use ff_trace::{BadTrace, MAX_ROWS, Row, trace};
+use ff_trace::{BadTrace, Row, trace};
 use std::alloc::Global;
 
 /// Runs the trace of an input: its sessions, of which there is one.
@@ -27,8 +25,11 @@ pub fn run<S: Source>(
     words: &[String],
     source: &mut S,
 ) -> Result<Vec<Session>, Refusal>
-    ensures ok { IfOk result (λ sessions. IsEnd (is_schedule (map string_bytes words.now)) (reads_of S.left S.faults source.old source.new) (Ok sessions.items)) }
-    ensures err { IfErr result (IsRefused (is_schedule (map string_bytes words.now)) (reads_of S.left S.faults source.old source.new)) }
+    ensures ok { IfOk result (λ sessions. IsEnd (is_schedule (map string_bytes words.now))
+        (source_change S.left S.faults source.old source.new) (Ok sessions.items)) }
+    ensures few { IfOk result (λ sessions. vec_len sessions ≡ 1) }
+    ensures err { IfErr result (IsRefused (is_schedule (map string_bytes words.now))
+        (source_change S.left S.faults source.old source.new)) }
 {
     if !asks_to_schedule(words) {
         return Err(Refusal::Usage);
@@ -42,12 +43,19 @@ pub fn run<S: Source>(
 
 /// Reads the rows of an input's trace.
 fn read_rows<S: Source>(alloc: Global, source: &mut S) -> Result<Vec<Row>, Refusal>
-    ensures ok { IfOk result (λ rows. ReadsWhole (reads_of S.left S.faults source.old source.new)
-        (HasTrace (λ part. IsTrace part rows.items))) }
-    ensures few { IfOk result (λ rows. vec_len rows ≤ MAX_ROWS) }
-    ensures err { IfErr result (IsRefused true (reads_of S.left S.faults source.old source.new)) }
+    ensures ok { IfOk result (λ rows.
+        ReadsRows (source_change S.left S.faults source.old source.new) rows.items) }
+    ensures few { IfOk result (λ rows. vec_len rows ≤ most_rows) }
+    ensures callers { IfOk result (λ rows. AreOfOneCaller rows.items) }
+    ensures err { IfErr result
+        (IsRefused true (source_change S.left S.faults source.old source.new)) }
 {
-    let input = read_all(alloc, source)?;
+    let input = match read_all(alloc, source) {
+        Ok(input) => input,
+        Err(BadInput::NoMemory) => return Err(Refusal::NoMemory),
+        Err(BadInput::Fault) => return Err(Refusal::ReadFault),
+        Err(BadInput::TooLong) => return Err(Refusal::TooLong),
+    };
     let Some(part) = trace_bytes(&input) else {
         return Err(Refusal::NoSeparator);
     };
@@ -59,10 +67,10 @@ fn read_rows<S: Source>(alloc: Global, source: &mut S) -> Result<Vec<Row>, Refus
 }
 
 /// Answers the rows in order, in a session of the default geometry that starts from nothing.
-fn run_rows(alloc: Global, rows: &[Row]) -> Result<Session, Refusal>
-    requires { length rows.now ≤ MAX_ROWS }
-    ensures ok { IfOk result (λ session. RunsRows session rows.now) }
-    ensures err { IfErr result (λ refusal. refusal ≡ Refusal.NoMemory) }
+fn run_rows(alloc: Global, rows: &[Row]) -> Result<Session, NoMemory>
+    requires few { length rows.now ≤ most_rows }
+    requires callers { AreOfOneCaller rows.now }
+    ensures { IfOk result (λ session. IsFirstSession session rows.now) }
 {
     let room = Room {
         calls: rows.len() as u32,
@@ -73,17 +81,16 @@ fn run_rows(alloc: Global, rows: &[Row]) -> Result<Session, Refusal>
     let ended = core.finish();
     Ok(Session {
         base: ended.base,
-        history: ended.history,
+        account: ended.account,
     })
 }
 
 // Each row is a call of the one caller, so its place is its number.
 fn drive_all(core: &mut Core, rows: &[Row])
-    requires room { length rows.now ≤ core.old.spare_calls }
-    requires few { length rows.now ≤ MAX_ROWS }
-    ensures opening { core.new.opening ≡ core.old.opening }
-    ensures rows { rows_of core.new.entries ≡ rows_of core.old.entries ++ rows.now }
-    ensures numbers { map (λ entry. entry.number) core.new.entries ≡ map (λ entry. entry.number) core.old.entries ++ range_with_len 0 (length rows.now) }
+    requires fresh { core.old ≡ fresh_core default_geometry (length rows.now) 0 }
+    requires few { length rows.now ≤ most_rows }
+    requires callers { AreOfOneCaller rows.now }
+    ensures { HasAnswered core.new rows.now }
 {
     let mut number = 0;
     for row in rows {

@@ -1,13 +1,12 @@
-use Rattle.std.proofs.Common.{◌≡◌, ◌+◌, ◌++◌, map, take}
-use Rattle.std.specs.List.{range_with_len}
-use Rattle.flatflash.specs.Ending.{rows_of}
+use Rattle.std.proofs.Common.{◌≡◌, ◌+◌, length, take}
+use Rattle.ff_model.specs.Callers.{entries_of}
+use Rattle.flatflash.specs.Runs.{HasAnswered}
 use Rattle.flatflash.proofs.run.drive_all.Given as goal
 
 abbrev pub invariant-loop-row : goal.invariant-loop-row
 invariant-loop-row l = record {
+  answered : HasAnswered l.core (take l.row-index l.rows);
+  own : length (entries_of 0 l.core.entries) ≡ l.number;
   count : l.number ≡ l.row-index;
-  spare : l.core.spare_calls + l.row-index ≡ l.fn.core.spare_calls;
-  opening : l.core.opening ≡ l.fn.core.opening;
-  rows : rows_of l.core.entries ≡ rows_of l.fn.core.entries ++ take l.row-index l.rows;
-  numbers : map (λ entry. entry.number) l.core.entries ≡ map (λ entry. entry.number) l.fn.core.entries ++ range_with_len 0 l.row-index;
+  spare : l.core.spare_calls + l.row-index ≡ length l.rows;
 }
