@@ -51,12 +51,4 @@ impl Marks {
     {
         self.masks[page.0 as usize]
     }
-
-    /// Marks with the same lines.
-    pub fn copy(&self, alloc: Global) -> Result<Marks, NoMemory>
-        ensures { IfOk result (λ marks. marks ≡ self.now) }
-    {
-        let masks = self.masks.to_vec(alloc)?;
-        Ok(Marks { masks })
-    }
 }
