@@ -12,5 +12,5 @@ mod trace_rows;
 
 pub use fields::CALLERS;
 pub use row::Row;
-pub use tally::{MAX_LOSSES, MAX_ROWS, MAX_TURNS};
+pub use tally::{Limits, MAX_LOSSES, MAX_ROWS, MAX_TURNS};
 pub use trace_rows::{BadTrace, trace};

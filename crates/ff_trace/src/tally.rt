@@ -25,9 +25,9 @@ pub(crate) struct Tally {
     pub losses: u32,
 }
 
-/// Where a trace is run, as far as its limits depend on it.
+/// Where a trace is run, as far as its limits depend on it. Contracts name it.
 #[derive(Clone, Copy)]
-pub(crate) struct Limits {
+pub struct Limits {
     /// How many cuts of the power the settings have.
     pub cuts: u32,
     /// Whether the callers are threads. These lose no power by a row.

@@ -1,11 +1,12 @@
 -- What one row more changes of a core that answers rows.
-use Rattle.std.proofs.Common.{◌≡◌, ◌≢◌, ◌+◌, ◌<◌, ◌^◌, ℕ, zero, suc, true, false, inl, inr, List, [], ◌∷◌, ◌++◌, length, get_or, set, refl, sym, ap, ◌∙◌, arith, length-append, get_or-set_same, get_or-set_other}
+use Rattle.std.proofs.Common.{◌≡◌, ◌≢◌, ◌+◌, ◌<◌, ◌≤◌, ◌^◌, ℕ, true, inl, inr, List, [], ◌∷◌, ◌++◌, length, get_or, set, refl, sym, ap, ◌∙◌, arith, length-append, get_or-set_same, get_or-set_other}
 use Rattle.std.proofs.Math.ListN.{length-set}
-use Rattle.std.proofs.lemmas.Bool.{cases_Bool}
+use Rattle.std.proofs.lemmas.Bool.{cases_Bool, cases_lt}
 use Rattle.std.proofs.lemmas.Bool.Decides.{nat_tests}
-use Rattle.std.specs.Prelude.{◌==◌}
-use Rattle.std.proofs.lemmas.Bool.{eqb-true}
-use Rattle.std.proofs.lemmas.List.{length-map, map-append}
+use Rattle.std.specs.Prelude.{◌==◌, replicate}
+use Rattle.std.proofs.lemmas.Bool.{eq-eqb, eqb-true}
+use Rattle.std.proofs.lemmas.List.Elements.{All-get_or}
+use Rattle.std.proofs.lemmas.List.{get_or-replicate, get_or_past, length-map, length-replicate, map-append}
 use Rattle.ff_base.specs.Geometry.{default_geometry}
 use Rattle.ff_core.specs.Core.{CoreView, entry_of, fresh_core}
 use Rattle.ff_core.specs.Record.{record_of}
@@ -20,12 +21,49 @@ use Rattle.flatflash.specs.Runs.{AreNextNumbers, AreRun, HasAnswered, IsFirstSes
 -- one of the rows is run
 pub run_at : (rows : List Row) (i : ℕ) (row : Row) → AreRun rows → i < length rows → row ≡ get_or rows i row
     → is_run row ≡ true
-run_at rows i row all within is = ?
+run_at rows i row all within is =
+    ap is_run is ∙ All-get_or (λ (r : Row). is_run r ≡ true) rows i row within all
 
 -- a core that has answered nothing
 pub answered-none : (spare : ℕ) → HasAnswered (fresh_core default_geometry spare 0) []
 answered-none spare =
     record { geometry = refl; opening = refl; events = refl; numbers = λ caller. refl; calls = refl }
+
+-- no caller has made a call
+pub next-none : (spare : ℕ) (numbers : List ℕ) → numbers ≡ replicate 64 0
+    → AreNextNumbers (fresh_core default_geometry spare 0) numbers
+next-none spare numbers is = record {
+  size = ap length is ∙ length-replicate {A = ℕ} 64 0;
+  each = λ k within. ap (λ (l : List ℕ). get_or l k 0) is ∙ get_or-replicate 64 k 0 0 within;
+}
+
+pub few-none : (numbers : List ℕ) → numbers ≡ replicate 64 0 → (k : ℕ) → get_or numbers k 0 ≤ 0
+few-none numbers is k = elim (cases_lt k 64) [
+  | inl within ↦
+      let zero_here : get_or numbers k 0 ≡ 0 = ap (λ (l : List ℕ). get_or l k 0) is ∙ get_or-replicate 64 k 0 0 within in
+      omega arith
+  | inr past ↦
+      let size : length numbers ≡ 64 = ap length is ∙ length-replicate {A = ℕ} 64 0 in
+      let none : get_or numbers k 0 ≡ 0 = get_or_past numbers k 0 (omega arith) in
+      omega arith
+]
+
+-- one more call raises no number past the count of the rows
+pub few-more : (numbers : List ℕ) (at count : ℕ) → at < length numbers → ((k : ℕ) → get_or numbers k 0 ≤ count)
+    → (k : ℕ) → get_or (set numbers at (get_or numbers at 0 + 1)) k 0 ≤ count + 1
+few-more numbers at count within few k = elim (cases_Bool (k == at)) [
+  | inl same ↦
+      let k_is : k ≡ at = eqb-true k at same in
+      let here = get_or-set_same numbers at (get_or numbers at 0 + 1) 0 within in
+      let there = ap (λ (n : ℕ). get_or (set numbers at (get_or numbers at 0 + 1)) n 0) k_is in
+      let bound = few at in
+      omega arith
+  | inr differs ↦
+      let apart : k ≢ at = λ e. absurd (let same : (k == at) ≡ true = eq-eqb k at e in cc) in
+      let other = get_or-set_other numbers at k (get_or numbers at 0 + 1) 0 apart in
+      let bound = few k in
+      omega arith
+]
 
 -- a caller of a row that is run is one of 64
 pub run_caller : (row : Row) → is_run row ≡ true → caller_of row < 64
@@ -52,11 +90,11 @@ numbers-more core numbers (Call caller op) had run =
             let counted = ap length (entries_of-append_same k core.entries entry same) in
             let more = length-append (entries_of k core.entries) (entry ∷ []) in
             let here : get_or (set numbers caller.0 (number + 1)) caller.0 0 ≡ number + 1 =
-                get_or-set_same numbers caller.0 (number + 1) 0 (omega arith) in
+            get_or-set_same numbers caller.0 (number + 1) 0 (omega arith) in
             let own : number ≡ length (entries_of k core.entries) = ap (λ (n : ℕ). get_or numbers n 0) k_is ∙ had.each k within in
             ap (λ (n : ℕ). get_or (set numbers caller.0 (number + 1)) n 0) (sym k_is) ∙ here ∙ omega arith
         | inr differs ↦
-            let apart : k ≢ caller.0 = λ e. absurd (let same : (caller.0 == k) ≡ true = rw e refl in cc) in
+            let apart : k ≢ caller.0 = λ e. absurd (let same : (caller.0 == k) ≡ true = eq-eqb caller.0 k (sym e) in cc) in
             get_or-set_other numbers caller.0 k (number + 1) 0 apart ∙ had.each k within
             ∙ sym (ap length (entries_of-append_other k core.entries entry differs))
       ];

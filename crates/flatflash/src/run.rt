@@ -1,5 +1,5 @@
 // A run: the input's rows, and the session that answers them.
-ghost use Rattle.std.specs.Prelude.{◌≡◌, ◌≤◌, ◌<◌, ◌+◌, ℕ, [], true, length, map, slice_index, slice_set, vec_len, Ok, Some, IfOk, IfErr};
+ghost use Rattle.std.specs.Prelude.{◌≡◌, ◌≤◌, ◌<◌, ◌+◌, ℕ, [], true, length, map, replicate, slice_index, slice_set, vec_len, Ok, Some, IfOk, IfErr, IfNone, IfSome};
 ghost use Rattle.std.specs.String.{string_bytes};
 ghost use Rattle.ff_base.specs.Geometry.{default_geometry};
 ghost use Rattle.ff_core.specs.Core.{fresh_core};
@@ -93,10 +93,18 @@ fn runnable(rows: Vec<Row>) -> Result<Vec<Row>, Refusal>
     ensures refused { IfErr result (λ refusal. (before : ℕ)
         × (refusal ≡ Refusal.BadRow (before + 1)) × (first_other rows.items ≡ Some before)) }
 {
-    match rows.iter().position(|row| !is_run(row)) {
+    match first_other(&rows) {
         Some(before) => Err(Refusal::BadRow(before as u32 + 1)),
         None => Ok(rows),
     }
+}
+
+fn first_other(rows: &[Row]) -> Option<usize>
+    ensures place { result ≡ first_other rows.now }
+    ensures within { IfSome result (λ before. before < length rows.now) }
+    ensures none { IfNone result (AreRun rows.now) }
+{
+    rows.iter().position(|row| !is_run(row))
 }
 
 fn is_run(row: &Row) -> bool
@@ -116,8 +124,19 @@ fn drive_all(core: &mut Core, rows: &[Row])
     ensures { HasAnswered core.new rows.now }
 {
     let mut numbers = [0; CALLERS as usize];
+    drive_each(core, &mut numbers, rows);
+}
+
+// The same, over the numbers of the callers' next calls.
+fn drive_each(core: &mut Core, numbers: &mut [u32], rows: &[Row])
+    requires fresh { core.old ≡ fresh_core default_geometry (length rows.now) 0 }
+    requires numbers { numbers.old ≡ replicate 64 0 }
+    requires few { length rows.now ≤ most_rows }
+    requires run { AreRun rows.now }
+    ensures { HasAnswered core.new rows.now }
+{
     for row in rows {
-        drive_row(core, &mut numbers, row);
+        drive_row(core, numbers, row);
     }
 }
 

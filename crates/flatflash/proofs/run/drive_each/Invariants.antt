@@ -1,6 +1,6 @@
-use Rattle.std.proofs.Common.{◌≡◌, ◌≤◌, ◌<◌, ◌+◌, ℕ, length, get_or, take}
+use Rattle.std.proofs.Common.{◌≡◌, ◌≤◌, ◌+◌, ℕ, length, get_or, take}
 use Rattle.flatflash.specs.Runs.{AreNextNumbers, HasAnswered}
-use Rattle.flatflash.proofs.run.drive_all.Given as goal
+use Rattle.flatflash.proofs.run.drive_each.Given as goal
 
 abbrev pub invariant-loop-row : goal.invariant-loop-row
 invariant-loop-row l = record {
