@@ -1,6 +1,6 @@
 // The arena of programmed pages' bytes. Each place takes room when it is first programmed, out of what was reserved
 // at the start, so that a program takes no memory.
-ghost use Rattle.std.specs.Prelude.{◌≡◌, ◌<◌, ◌≤◌, ◌^◌, ◌+◌, ◌*◌, ◌++◌, [], IfOk, IsOk, length, vec_len, vec_capacity, replicate, slice_set, slice_index_or, take, drop, Some, None};
+ghost use Rattle.std.specs.Prelude.{◌≡◌, ◌<◌, ◌≤◌, ◌+◌, ◌*◌, ◌++◌, [], IfOk, length, vec_len, vec_capacity, replicate, slice_set, slice_index_or, take, drop, Some, None};
 ghost use Rattle.ff_flash.specs.PageArena.{page_in};
 
 use ff_base::{NoMemory, PAGE_BYTES, append_reserved};

@@ -41,61 +41,73 @@ enum Way {
 
 type Answer = Option<Result<(), FlashStop>>;
 
-const OK: Answer = Some(Ok(()));
-
-const FAILED: Answer = Some(Err(FlashStop::Failed));
-
-const OFF: Answer = Some(Err(FlashStop::Off));
-
-const WAYS: [(Way, Answer); 5] = [
-    (Way::Works, OK),
-    (Way::Fails, FAILED),
-    (Way::Cut(0), OFF),
-    (Way::Cut(1), OFF),
-    (Way::Cut(3), OFF),
+const WAYS: [Way; 5] = [
+    Way::Works,
+    Way::Fails,
+    Way::Cut(0),
+    Way::Cut(1),
+    Way::Cut(3),
 ];
 
-const E: Probe = Probe::Erased;
-
-const S: Probe = Probe::Spoiled;
-
-const C: Probe = Probe::Closed;
-
-const X: Probe = Probe::Sealed(SPARE);
-
-// The operation, the state of the first two pages of the block before it, and the states of the two after each way
-// that it goes.
-const ROWS: [(Call, Probe, [(Probe, Probe); 5]); 11] = [
-    (Call::Probe, E, [(E, E), (E, E), (E, E), (E, E), (E, E)]),
-    (Call::Probe, S, [(S, S), (S, S), (S, S), (S, S), (S, S)]),
-    (Call::Probe, C, [(C, C), (C, C), (C, C), (C, C), (C, C)]),
-    (Call::Probe, X, [(X, X), (X, X), (X, X), (X, X), (X, X)]),
-    (Call::Read, X, [(X, X), (X, X), (X, X), (X, X), (X, X)]),
-    (Call::Program, E, [(C, E), (S, E), (E, E), (S, E), (S, E)]),
-    (Call::Seal, C, [(X, C), (C, C), (C, C), (X, C), (X, C)]),
-    (Call::Erase, E, [(E, E), (E, E), (E, E), (S, E), (S, S)]),
-    (Call::Erase, S, [(E, E), (S, S), (S, S), (S, S), (S, S)]),
-    (Call::Erase, C, [(E, E), (C, C), (C, C), (S, C), (S, S)]),
-    (Call::Erase, X, [(E, E), (X, X), (X, X), (S, X), (S, S)]),
+// The operation, the state of the first two pages of the block before it, and for each way that it goes the letter of
+// its answer and those of the two states after it.
+const ROWS: [(Call, u8, &[u8; 20]); 11] = [
+    (Call::Probe, b'e', b"oee fee -ee -ee -ee "),
+    (Call::Probe, b's', b"oss fss -ss -ss -ss "),
+    (Call::Probe, b'c', b"occ fcc -cc -cc -cc "),
+    (Call::Probe, b'x', b"oxx fxx -xx -xx -xx "),
+    (Call::Read, b'x', b"oxx fxx -xx -xx -xx "),
+    (Call::Program, b'e', b"oce fse -ee -se -se "),
+    (Call::Seal, b'c', b"oxc fcc -cc -xc -xc "),
+    (Call::Erase, b'e', b"oee fee -ee -se -ss "),
+    (Call::Erase, b's', b"oee fss -ss -ss -ss "),
+    (Call::Erase, b'c', b"oee fcc -cc -sc -ss "),
+    (Call::Erase, b'x', b"oee fxx -xx -sx -ss "),
 ];
 
 #[test]
 fn pages_change_by_the_table(rt: HostRuntime) -> Result<(), Fail> {
-    for (call, state, after) in ROWS {
-        for ((way, answer), pages) in WAYS.into_iter().zip(after) {
-            let mut flash = flash_in(rt.alloc(), state, way)?;
-            let mut page = PageBuf::new(rt.alloc())?;
-            assert_eq!(rt; make(&mut flash, call, Ppn(4), &mut page), answer);
-            assert_eq!(rt; flash.glance(Ppn(4)), Some(pages.0));
-            assert_eq!(rt; flash.glance(Ppn(5)), Some(pages.1));
-        }
+    for (call, state, wanted) in ROWS {
+        assert_eq!(rt; row(rt.alloc(), call, state)?, *wanted);
     }
     Ok(())
 }
 
+// The letters of an operation from a state, each way that it goes.
+fn row(alloc: Global, call: Call, state: u8) -> Result<[u8; 20], NoMemory> {
+    let mut letters = *b"                    ";
+    for i in 0..5 {
+        let mut flash = flash_in(alloc, state, WAYS[i])?;
+        let mut page = PageBuf::new(alloc)?;
+        letters[4 * i] = answer_letter(make(&mut flash, call, Ppn(4), &mut page));
+        letters[4 * i + 1] = state_letter(flash.glance(Ppn(4)));
+        letters[4 * i + 2] = state_letter(flash.glance(Ppn(5)));
+    }
+    Ok(letters)
+}
+
+fn answer_letter(answer: Answer) -> u8 {
+    match answer {
+        Some(Ok(())) => b'o',
+        Some(Err(FlashStop::Failed)) => b'f',
+        Some(Err(FlashStop::Off)) => b'-',
+        None => b'?',
+    }
+}
+
+fn state_letter(state: Option<Probe>) -> u8 {
+    match state {
+        Some(Probe::Erased) => b'e',
+        Some(Probe::Spoiled) => b's',
+        Some(Probe::Closed) => b'c',
+        Some(Probe::Sealed(_)) => b'x',
+        None => b'?',
+    }
+}
+
 #[test]
 fn a_flash_tells_its_counts_and_its_cut(rt: HostRuntime) -> Result<(), Fail> {
-    let mut flash = flash_in(rt.alloc(), E, Way::Cut(0))?;
+    let mut flash = flash_in(rt.alloc(), b'e', Way::Cut(0))?;
     assert_eq!(rt; counts_of(&flash), (6, 0, true, None));
     let plan = plan_of(rt.alloc(), Way::Cut(0))?;
     assert!(rt; flash.plan_is(&plan));
@@ -115,13 +127,16 @@ fn a_flash_tells_its_counts_and_its_cut(rt: HostRuntime) -> Result<(), Fail> {
 
 #[test]
 fn a_page_reads_as_it_was_programmed(rt: HostRuntime) -> Result<(), Fail> {
-    let mut flash = flash_in(rt.alloc(), E, Way::Works)?;
+    let mut flash = flash_in(rt.alloc(), b'e', Way::Works)?;
     let mut page = PageBuf::new(rt.alloc())?;
     page.set_line(1, &[9; 64]);
-    bring(&mut flash, Ppn(5), X, &mut page);
+    bring(&mut flash, Ppn(5), b'x', &mut page);
     page.clear();
-    bring(&mut flash, Ppn(4), X, &mut page);
-    assert_eq!(rt; make(&mut flash, Call::Read, Ppn(5), &mut page), OK);
+    bring(&mut flash, Ppn(4), b'x', &mut page);
+    assert_eq!(rt;
+        make(&mut flash, Call::Read, Ppn(5), &mut page),
+        Some(Ok(()))
+    );
     assert_eq!(rt; page.line(1), [9; 64]);
     Ok(())
 }
@@ -136,7 +151,7 @@ fn counts_of(flash: &SimFlash) -> (u64, u64, bool, Option<u32>) {
     )
 }
 
-// The first operation spoils two pages, and the seventh goes this way.
+// The first operation, an erase, is cut and spoils two pages. The seventh goes this way.
 fn plan_of(alloc: Global, way: Way) -> Result<Plan, NoMemory>
     ensures { IfOk result (λ plan. IsPlan (planned_of plan)) }
 {
@@ -162,19 +177,19 @@ fn plan_of(alloc: Global, way: Way) -> Result<Plan, NoMemory>
                     at: 7,
                     mask,
                     arrive: 2
-                }
+                },
             ]?,
         }),
     }
 }
 
 // A flash after six operations, of which the first two pages of the second block are in this state.
-fn flash_in(alloc: Global, state: Probe, way: Way) -> Result<SimFlash, NoMemory> {
+fn flash_in(alloc: Global, state: u8, way: Way) -> Result<SimFlash, NoMemory> {
     let mut flash = SimFlash::new(alloc, &Geometry::default(), plan_of(alloc, way)?)?;
     let mut page = PageBuf::new(alloc)?;
     let _ = make(&mut flash, Call::Erase, Ppn(4), &mut page);
     flash.power_up();
-    if state != S {
+    if state != b's' {
         let _ = make(&mut flash, Call::Erase, Ppn(4), &mut page);
         bring(&mut flash, Ppn(4), state, &mut page);
         bring(&mut flash, Ppn(5), state, &mut page);
@@ -186,11 +201,11 @@ fn flash_in(alloc: Global, state: Probe, way: Way) -> Result<SimFlash, NoMemory>
 }
 
 // Brings an erased page to this state.
-fn bring(flash: &mut SimFlash, at: Ppn, state: Probe, page: &mut PageBuf) {
-    if state != E {
+fn bring(flash: &mut SimFlash, at: Ppn, state: u8, page: &mut PageBuf) {
+    if state != b'e' {
         let _ = make(flash, Call::Program, at, page);
     }
-    if state == X {
+    if state == b'x' {
         let _ = make(flash, Call::Seal, at, page);
     }
 }
@@ -200,13 +215,14 @@ fn make(flash: &mut SimFlash, call: Call, at: Ppn, page: &mut PageBuf) -> Answer
     if flash.operation_count() >= 1 << 63 {
         return None;
     }
-    let state = flash.glance(at)?;
-    match call {
-        Call::Probe => Some(flash.probe(at).map(|_| ())),
-        Call::Read if let Probe::Sealed(_) = state => Some(flash.read(at, page)),
-        Call::Program if state == E => Some(flash.program(at, page, SPARE)),
-        Call::Seal if state == C => Some(flash.seal(at)),
-        Call::Erase if flash.has_block(Block(at.0 / 4)) => Some(flash.erase(Block(at.0 / 4))),
+    match (call, flash.glance(at)?) {
+        (Call::Probe, _) => Some(flash.probe(at).map(|_| ())),
+        (Call::Read, Probe::Sealed(_)) => Some(flash.read(at, page)),
+        (Call::Program, Probe::Erased) => Some(flash.program(at, page, SPARE)),
+        (Call::Seal, Probe::Closed) => Some(flash.seal(at)),
+        (Call::Erase, _) if flash.has_block(Block(at.0 / 4)) => {
+            Some(flash.erase(Block(at.0 / 4)))
+        }
         _ => None,
     }
 }

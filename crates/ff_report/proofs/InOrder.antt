@@ -33,6 +33,10 @@ Wrote-failed e a b i j p q text first is =
     let split : text ≡ front ++ (back ++ q) = is ∙ ap (λ l. l ++ q) first.err.2 ∙ append_assoc front back q in
     record { ok = tt; err = (front, back ++ q, split, first.err.3); faults = first.faults }
 
+-- nothing was to be written
+pub Wrote_none : (a : Option (List ℕ)) (i : ℕ) → Wrote (Ok tt) a a i i []
+Wrote_none a i = record { ok = Appends-nil a; err = tt; faults = refl }
+
 pub ruleset in_order = (Wrote-then, Wrote-failed)
 
 -- in a loop over a list: no piece is written yet

@@ -1,5 +1,5 @@
-// Lines that are written one after the other.
-ghost use Rattle.std.specs.Prelude.{flat_map};
+// Writes lines one after the other.
+ghost use Rattle.ff_report.specs.Text.{lines_text};
 ghost use Rattle.ff_report.specs.Wrote.{Wrote};
 
 use crate::Line;
@@ -10,4 +10,17 @@ pub fn write_line<K: Sink>(sink: &mut K, line: &Line) -> Result<(), Failed>
         (K.faults sink.old) (K.faults sink.new) line.now }
 {
     sink.write(line.as_slice())
+}
+
+pub fn write_lines<K: Sink>(sink: &mut K, lines: &[Line]) -> Result<(), Failed>
+    ensures { Wrote result (K.written sink.old) (K.written sink.new)
+        (K.faults sink.old) (K.faults sink.new) (lines_text lines.now) }
+{
+    for line in lines {
+        match write_line(sink, line) {
+            Ok(()) => {}
+            Err(failed) => return Err(failed),
+        }
+    }
+    Ok(())
 }

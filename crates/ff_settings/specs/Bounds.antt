@@ -3,8 +3,9 @@ use Rattle.std.specs.Prelude.{ℕ, ◌+◌, ◌^◌, ◌≤◌, Bool, true, not,
 use Rattle.std.specs.List.{list_all}
 use Rattle.std.specs.Option.{option_map_or}
 use Rattle.ff_base.specs.Count.{last_event}
-use Rattle.ff_base.specs.Geometry.{IsWithinLimits, limit_of}
-use Rattle.ff_base.specs.declared.limits.Limit.{Limit}
+use Rattle.ff_base.specs.Geometry.{IsWithinLimits, greatest_of, least_of, value_of}
+use Rattle.ff_base.specs.declared.geometry.Geometry.{Geometry}
+use Rattle.ff_base.specs.declared.limits.LimitName.{LimitName}
 use Rattle.ff_base.specs.declared.limits.LimitName.TheVariants as limit
 use Rattle.ff_flash.specs.Plans.{IsPlan, cut_numbers, is_listed}
 use Rattle.ff_flash.specs.declared.plan.CutAt.{CutAt}
@@ -21,8 +22,9 @@ abbrev pub most_cuts : ℕ
 most_cuts = 16
 
 -- a number of a geometry keeps its bounds
-unfoldable pub is_kept : Limit → Bool
-is_kept bounds = nat_le bounds.least bounds.value && nat_le bounds.value bounds.greatest
+unfoldable pub is_kept : Geometry → LimitName → Bool
+is_kept geometry name =
+    nat_le (least_of name) (value_of geometry name) && nat_le (value_of geometry name) (greatest_of name)
 
 -- the numbers rise, from the least on and at most to the last number of an event
 abbrev pub rises_from : ℕ → List ℕ → Bool
@@ -50,17 +52,17 @@ event_fits event = option_map_or (λ number. nat_le number last_event) event tru
 
 -- a setting is within its bounds
 abbrev pub is_within : SettingsView → SettingName → Bool
-is_within settings name.Blocks = is_kept (limit_of settings.geometry limit.Blocks)
-is_within settings name.PerBlock = is_kept (limit_of settings.geometry limit.PerBlock)
-is_within settings name.Pages = is_kept (limit_of settings.geometry limit.Pages)
-is_within settings name.Sets = is_kept (limit_of settings.geometry limit.Sets)
-is_within settings name.Ways = is_kept (limit_of settings.geometry limit.Ways)
-is_within settings name.Frames = is_kept (limit_of settings.geometry limit.Frames)
-is_within settings name.Plb = is_kept (limit_of settings.geometry limit.Plb)
-is_within settings name.Window = is_kept (limit_of settings.geometry limit.Window)
-is_within settings name.Low = is_kept (limit_of settings.geometry limit.Low)
-is_within settings name.FlashPages = is_kept (limit_of settings.geometry limit.FlashPages)
-is_within settings name.CacheWays = is_kept (limit_of settings.geometry limit.CacheWays)
+is_within settings name.Blocks = is_kept settings.geometry limit.Blocks
+is_within settings name.PerBlock = is_kept settings.geometry limit.PerBlock
+is_within settings name.Pages = is_kept settings.geometry limit.Pages
+is_within settings name.Sets = is_kept settings.geometry limit.Sets
+is_within settings name.Ways = is_kept settings.geometry limit.Ways
+is_within settings name.Frames = is_kept settings.geometry limit.Frames
+is_within settings name.Plb = is_kept settings.geometry limit.Plb
+is_within settings name.Window = is_kept settings.geometry limit.Window
+is_within settings name.Low = is_kept settings.geometry limit.Low
+is_within settings name.FlashPages = is_kept settings.geometry limit.FlashPages
+is_within settings name.CacheWays = is_kept settings.geometry limit.CacheWays
 is_within settings name.Fail = are_fails settings.plan.fail
 is_within settings name.Cut = are_cuts_beside settings.plan.fail settings.plan.cuts
 is_within settings name.PowerEvent = event_fits settings.power_event

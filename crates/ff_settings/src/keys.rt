@@ -8,8 +8,8 @@ ghost use Rattle.toml.specs.View.{table_view, view};
 ghost use Rattle.ff_settings.specs.Keys.{has_cut_keys, has_known_keys, is_cut_key, is_key};
 ghost use Rattle.ff_settings.specs.Names.{text_of};
 
-use crate::names::{SettingName, key_names};
 use crate::document::value_at;
+use crate::names::{SettingName, key_names};
 use crate::values::values_of;
 use toml::{Table, Value};
 

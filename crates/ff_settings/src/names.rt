@@ -119,9 +119,5 @@ pub(crate) fn setting_names() -> &'static [SettingName]
 pub(crate) fn key_names(threads: bool) -> &'static [SettingName]
     ensures { result.now ≡ key_names threads }
 {
-    if threads {
-        &KEYS
-    } else {
-        &KEYS[..COMMON_KEYS]
-    }
+    if threads { &KEYS } else { &KEYS[..COMMON_KEYS] }
 }
