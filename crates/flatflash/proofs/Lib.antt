@@ -1,4 +1,3 @@
-pub mod Callers
 pub mod Driven
 pub mod Taken
 pub mod Told

@@ -1,14 +1,15 @@
 -- How a call of the program ends, by the words, the input and the faults, and what it tells.
-use Rattle.std.specs.Prelude.{ℕ, ◌+◌, ◌≡◌, ◌≤◌, ◌⊎◌, ◌==◌, if◌then◌else◌, Bool, true, false, List, [], ◌∷◌, ◌++◌, codes, decimal, Option, None, Result, Ok, Err}
+use Rattle.std.specs.Prelude.{ℕ, ◌+◌, ◌≡◌, ◌≤◌, ◌⊎◌, ◌==◌, if◌then◌else◌, Bool, true, false, List, [], ◌∷◌, ◌++◌, codes, decimal, Option, None, Some, Result, Ok, Err}
 use Rattle.std.specs.Io.KnownBytes.{Appends}
 use Rattle.ff_base.specs.Count.{Rose}
 use Rattle.ff_io.specs.Known.{AppendsPrefix}
 use Rattle.ff_report.specs.Text.{history_text}
 use Rattle.ff_trace.specs.Trace.{IsTrace, IsCauseOf}
 use Rattle.ff_trace.specs.declared.row.Row.{Row}
+use Rattle.ff_trace.specs.declared.tally.Limits.{Limits}
 use Rattle.ff_trace.specs.declared.trace_rows.BadTrace.TheVariants as bad
 use Rattle.flatflash.specs.Input.{SourceChange, HasNoFault, Untouched, ReadsTooMuch, FailsToRead, ReadsWhole, HasTrace, trace_part}
-use Rattle.flatflash.specs.Runs.{AreSessionsOf}
+use Rattle.flatflash.specs.Runs.{AreSessionsOf, first_other}
 use Rattle.flatflash.specs.declared.refusal.Refusal.{Refusal}
 use Rattle.flatflash.specs.declared.refusal.Refusal.TheVariants as refusal
 use Rattle.flatflash.specs.declared.session.Session.{Session}
@@ -16,6 +17,18 @@ use Rattle.flatflash.specs.declared.session.Session.{Session}
 -- a run gives its sessions, or is refused
 abbrev pub End : Type 0
 End = Result (List Session) Refusal
+
+-- the rows of a trace are run one after the other, and the power is never cut
+abbrev pub one_thread : Limits
+one_thread = record { cuts = 0; threads = false }
+
+-- all records of the trace are rows, and that of this number is the first whose row isn't run
+pub record IsFirstOther (trace : List ℕ) (number : ℕ) : Type 0 where
+  pub rows : List Row
+  pub is_trace : IsTrace one_thread trace rows
+  pub before : ℕ
+  pub first : first_other rows ≡ Some before
+  pub place : number ≡ before + 1
 
 -- why a run is refused. Each cause says that those before it don't hold; want of memory has none,
 -- and no read failed before it.
@@ -27,11 +40,13 @@ IsRefused has_words source refusal.TooLong = (has_words ≡ true) × ReadsTooMuc
 IsRefused has_words source refusal.NoSeparator =
     (has_words ≡ true) × ReadsWhole source (λ bytes. trace_part bytes ≡ None)
 IsRefused has_words source (refusal.BadRow number) =
-    (has_words ≡ true) × ReadsWhole source (HasTrace (λ trace. IsCauseOf trace (bad.Row number)))
+    (has_words ≡ true)
+    × ReadsWhole source
+    (HasTrace (λ trace. IsCauseOf one_thread trace (bad.Row number) ⊎ IsFirstOther trace number))
 
 -- the whole input was read, and its trace is these rows
 abbrev pub ReadsRows : SourceChange → List Row → Type 0
-ReadsRows source rows = ReadsWhole source (HasTrace (λ trace. IsTrace trace rows))
+ReadsRows source rows = ReadsWhole source (HasTrace (λ trace. IsTrace one_thread trace rows))
 
 -- the words, the input and its faults allow this end
 abbrev pub IsEnd : Bool → SourceChange → End → Type 0

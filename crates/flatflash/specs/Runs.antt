@@ -1,31 +1,51 @@
 -- What a run over the rows of a trace gives.
-use Rattle.std.specs.Prelude.{ℕ, ◌≡◌, List, [], ◌∷◌, length, map}
+use Rattle.std.specs.Prelude.{ℕ, ◌≡◌, ◌<◌, not, nat_lt, Bool, true, false, All, List, [], ◌∷◌, length, map, position, Option, slice_index}
 use Rattle.ff_base.specs.Geometry.{default_geometry}
-use Rattle.ff_model.specs.Callers.{AreNumbered}
+use Rattle.ff_model.specs.Callers.{AreNumbered, entries_of}
 use Rattle.ff_model.specs.Legal.{IsLegal, faults_after, next_event}
 use Rattle.ff_model.specs.declared.history.Entry.{Entry}
 use Rattle.ff_core.specs.Core.{CoreView, after_call, fresh_opening}
 use Rattle.ff_core.specs.Record.{opening_from}
 use Rattle.ff_trace.specs.declared.row.Row.{Row}
-use Rattle.ff_trace.specs.declared.row.Row.TheVariants.{Call}
+use Rattle.ff_trace.specs.declared.row.Row.TheVariants.{Call, Turns, Power}
 use Rattle.flatflash.specs.declared.session.Session.{Session}
 
 -- the rows that these entries answer, in their order
 abbrev pub rows_of : List Entry → List Row
 rows_of entries = map (λ entry. Call entry.caller entry.op) entries
 
--- the caller of a row
-abbrev pub caller_of : Row → ℕ
-caller_of (Call caller op) = caller.0
+-- a row that the program runs: a call of one of its callers. Turns and losses of power wait for a
+-- device behind the sessions.
+abbrev pub is_run : Row → Bool
+is_run (Call caller op) = nat_lt caller.0 64
+is_run (Turns kind count) = false
+is_run (Power arrive) = false
 
--- the rows are calls of caller 0
-abbrev pub AreOfOneCaller : List Row → Type 0
-AreOfOneCaller [] = Unit {0}
-AreOfOneCaller (row ∷ later) = (caller_of row ≡ 0) × AreOfOneCaller later
+-- the program runs each of the rows
+abbrev pub AreRun : List Row → Type 0
+AreRun rows = All (λ row. is_run row ≡ true) rows
 
--- the core after a row, which is a call of this number
+-- the place of the first row that the program doesn't run
+abbrev pub first_other : List Row → Option ℕ
+first_other rows = position (λ row. not (is_run row)) rows
+
+-- the core after a row, which is a call of this number of its caller
 abbrev pub after_row : CoreView → ℕ → Row → CoreView
 after_row core number (Call caller op) = after_call core caller number op
+after_row core number (Turns kind count) = core
+after_row core number (Power arrive) = core
+
+-- the caller of a row, and 0 where it has none
+abbrev pub caller_of : Row → ℕ
+caller_of (Call caller op) = caller.0
+caller_of (Turns kind count) = 0
+caller_of (Power arrive) = 0
+
+-- the numbers of the callers' next calls: how many each has made
+pub record AreNextNumbers (core : CoreView) (numbers : List ℕ) : Type 0 where
+  pub size : length numbers ≡ 64
+  pub each : (caller : ℕ) → caller < 64
+      → slice_index numbers caller ≡ length (entries_of caller core.entries)
 
 -- a core that started from nothing has answered these rows, one event each
 pub record HasAnswered (core : CoreView) (rows : List Row) : Type 0 where
