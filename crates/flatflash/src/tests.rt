@@ -86,6 +86,9 @@ fn other_words_are_refused(rt: HostRuntime) -> Result<(), Fail> {
         "",
         "flatflash",
         "flatflash threads",
+        "flatflash load 7",
+        "flatflash load 4294967296",
+        "flatflash --help",
         "flatflash schedule more",
         "schedule flatflash",
     ] {
@@ -94,7 +97,7 @@ fn other_words_are_refused(rt: HostRuntime) -> Result<(), Fail> {
         let mut sink = sink(alloc, 0)?;
         let outcome = schedule(alloc, &words, &mut source, &mut sink);
         assert_eq!(rt; outcome.status, 1);
-        assert_eq!(rt; sink.written(), b"usage: flatflash schedule\n".as_slice());
+        assert_eq!(rt; sink.written(), b"usage: flatflash schedule, threads or load N\n".as_slice());
         assert!(rt; outcome.sessions.is_empty());
     }
     Ok(())
