@@ -5,7 +5,7 @@ use Rattle.std.proofs.lemmas.List.{append-nil, append_assoc}
 use Rattle.ff_model.specs.declared.op.Op.{Op}
 use Rattle.ff_gen.specs.Calls.{call_from, calls_from}
 use Rattle.ff_gen.specs.Generated.{generated, mark_rows, rows_of}
-use Rattle.ff_gen.specs.declared.row.Row.{Row}
+use Rattle.ff_trace.specs.declared.row.Row.{Row}
 
 -- the rows of so many calls from a number on, drawn from a state
 abbrev pub rows_left : ℕ → ℕ → ℕ → List Row

@@ -5,8 +5,8 @@ use Rattle.ff_model.specs.declared.counts.Kind.TheVariants.{Promote, Evict, Coll
 use Rattle.ff_model.specs.declared.op.Op.{Op}
 use Rattle.ff_model.specs.declared.op.Op.TheVariants.{Mark}
 use Rattle.ff_gen.specs.Calls.{calls_from}
-use Rattle.ff_gen.specs.declared.row.Row.{Row}
-use Rattle.ff_gen.specs.declared.row.Row.TheVariants.{Call, Turns}
+use Rattle.ff_trace.specs.declared.row.Row.{Row}
+use Rattle.ff_trace.specs.declared.row.Row.TheVariants.{Call, Turns}
 
 -- the turns behind each sixteenth call
 abbrev pub turn_rows : List Row

@@ -5,9 +5,9 @@ ghost use Rattle.ff_gen.specs.Generated.{generated, mark_row, mark_rows, rows_of
 
 use crate::calls::call;
 use crate::draws::Draws;
-use crate::row::Row;
 use ff_base::{Caller, NoMemory, PageNo};
 use ff_model::{Kind, Op};
+use ff_trace::Row;
 use std::alloc::Global;
 
 // How many calls are drawn.
