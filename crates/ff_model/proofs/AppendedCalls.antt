@@ -1,6 +1,6 @@
 -- What one more entry at the end of a history changes of one caller's calls, of what is acknowledged and of what is
 -- marked.
-use Rattle.std.proofs.Common.{◌≡◌, inl, inr, ℕ, zero, suc, ◌+◌, Bool, true, false, cond, List, [], ◌∷◌, ◌++◌, length, map, Option, refl, sym, ap, ◌∙◌, length-append, arith}
+use Rattle.std.proofs.Common.{◌≡◌, inl, inr, ℕ, ◌+◌, Bool, true, false, cond, List, [], ◌∷◌, ◌++◌, length, map, Option, refl, sym, ap, ◌∙◌, length-append, arith}
 use Rattle.std.specs.Prelude.{unwrap_or, ◌==◌, ◌&&◌, nat_lt}
 use Rattle.std.specs.Int.{bit_at}
 use Rattle.std.specs.Prelude.{slice_index}
@@ -9,12 +9,12 @@ use Rattle.std.proofs.lemmas.Bool.{cases_Bool}
 use Rattle.std.proofs.lemmas.Bool.Decides.{nat_tests}
 use Rattle.std.proofs.lemmas.List.{append-nil, map-append}
 use Rattle.std.proofs.lemmas.List.Elements.{filter-append}
-use Rattle.std.proofs.lemmas.List.FromFn.{map-range_with_len_more}
 use Rattle.ff_model.specs.Callers.{entries_of, calls_of, AreNumbered, acknowledges, acknowledged_length, marked_by, is_marked}
 use Rattle.ff_model.specs.Flat.{latest, is_done}
 use Rattle.ff_model.specs.Image.{Content}
 use Rattle.ff_model.specs.declared.history.Entry.{Entry}
 use Rattle.ff_model.proofs.Appended.{latest-append, or-default}
+use Rattle.ff_model.proofs.Ranges.{range_with_len-more}
 
 -- a caller's entries end with the last one, where it is the caller's
 pub entries_of-append : (caller : ℕ) (before : List Entry) (entry : Entry)
@@ -45,14 +45,6 @@ pub calls_of-append_other : (caller : ℕ) (before : List Entry) (entry : Entry)
 calls_of-append_other caller before entry other =
     ap (λ (es : List Entry). map (λ e. e.op) es) (entries_of-append_other caller before entry other)
 
-map_same : (a n : ℕ) → map (λ (k : ℕ). k) (range_with_len a n) ≡ range_with_len a n
-map_same a zero = refl
-map_same a (suc n) = ap (λ (l : List ℕ). a ∷ l) (map_same (a + 1) n)
-
--- numbers from 0, and the next one behind them
-count_on : (n : ℕ) → range_with_len 0 (n + 1) ≡ range_with_len 0 n ++ n ∷ []
-count_on n = sym (map_same 0 (n + 1)) ∙ map-range_with_len_more (λ (k : ℕ). k) 0 n n (omega arith) ∙ ap (λ (l : List ℕ). l ++ n ∷ []) (map_same 0 n)
-
 -- a caller's calls stay numbered from 0 where the last entry has the next number of its caller
 pub AreNumbered-append : (caller : ℕ) (before : List Entry) (entry : Entry) → AreNumbered caller before
     → ((entry.caller.0 == caller) ≡ true → entry.number ≡ length (entries_of caller before))
@@ -66,7 +58,7 @@ AreNumbered-append caller before entry numbered next = elim (cases_Bool (entry.c
       (map-append (λ e. e.number) mine (entry ∷ [])
       ∙ ap (λ (l : List ℕ). l ++ entry.number ∷ []) numbered
       ∙ ap (λ (n : ℕ). range_with_len 0 (length mine) ++ n ∷ []) number
-      ∙ sym (count_on (length mine))
+      ∙ sym (range_with_len-more 0 (length mine) (length mine) (omega arith))
       ∙ ap (λ (n : ℕ). range_with_len 0 n) (sym size))
   | inr other ↦ rw (entries_of-append_other caller before entry other) numbered
 ]

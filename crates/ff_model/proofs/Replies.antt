@@ -1,11 +1,10 @@
 -- Replies depend on the bytes of the pages alone, and not on how they are kept.
-use Rattle.std.proofs.Common.{◌≡◌, ◌≤◌, ◌<◌, inl, inr, ℕ, zero, suc, ◌+◌, ◌*◌, ◌/◌, ◌%◌, Bool, false, cond, List, ◌∷◌, length, map, refl, ap, ◌∙◌, arith}
-use Rattle.std.specs.Prelude.{IsTrue, count_by, ◌==◌}
+use Rattle.std.proofs.Common.{◌≡◌, ◌≤◌, ◌<◌, inl, inr, ℕ, zero, suc, ◌+◌, ◌*◌, ◌/◌, ◌%◌, Bool, false, List, ◌∷◌, length, map, refl, ap, ◌∙◌, arith}
+use Rattle.std.specs.Prelude.{IsTrue, ◌==◌}
 use Rattle.std.specs.List.{range_with_len}
-use Rattle.std.proofs.lemmas.Bool.{cases_lt, cases_Bool}
+use Rattle.std.proofs.lemmas.Bool.{cases_Bool}
 use Rattle.std.proofs.lemmas.Bool.Decides.{nat_tests}
-use Rattle.std.proofs.lemmas.List.FromFn.{length-range_with_len}
-use Rattle.std.proofs.lemmas.List.Sums.{count_by-le-length, sum_by-cons}
+use Rattle.ff_model.proofs.Ranges.{count_by-less}
 use Rattle.ff_base.specs.Count.{last_event}
 use Rattle.ff_base.specs.declared.numbers.TheConstants.{PAGE_BYTES}
 use Rattle.ff_model.specs.Flat.{is_born, born_count}
@@ -61,28 +60,6 @@ reply_over-same f g pages refused event op same = elim (cases_Bool (is_in_range 
     ]
   ]
   | inr outside ↦ rw outside refl
-]
-
--- where one number of a range fails a test, fewer pass than there are
-pub count_by-less : (f : ℕ → Bool) (a n p : ℕ) → a ≤ p → p < a + n → f p ≡ false
-    → count_by f (range_with_len a n) < n
-count_by-less f a zero p low high fails = absurd (omega arith)
-count_by-less f a (suc n) p low high fails = elim (cases_lt a p) [
-  | inl later ↦
-      let rest = count_by-less f (a + 1) n p (omega arith) (omega arith) fails in
-      let split : count_by f (range_with_len a (suc n)) ≡ cond {A = ℕ} (f a) 1 0 + count_by f (range_with_len (a + 1) n) = sum_by-cons (λ x. cond (f x) 1 0) a (range_with_len (a + 1) n) in
-      elim (cases_Bool (f a)) [
-        | inl passes ↦ let here : cond {A = ℕ} (f a) 1 0 ≡ 1 = rw passes refl in omega arith
-        | inr not_so ↦ let here : cond {A = ℕ} (f a) 1 0 ≡ 0 = rw not_so refl in omega arith
-      ]
-  | inr now ↦
-      let same : a ≡ p = omega arith in
-      let no : f a ≡ false = ap f same ∙ fails in
-      let here : cond {A = ℕ} (f a) 1 0 ≡ 0 = rw no refl in
-      let split : count_by f (range_with_len a (suc n)) ≡ cond {A = ℕ} (f a) 1 0 + count_by f (range_with_len (a + 1) n) = sum_by-cons (λ x. cond (f x) 1 0) a (range_with_len (a + 1) n) in
-      let most = count_by-le-length f (range_with_len (a + 1) n) in
-      let size = length-range_with_len (a + 1) n in
-      omega arith
 ]
 
 store_within : (pages at len : ℕ) → IsTrue (is_span pages at len) → at / 4096 < pages

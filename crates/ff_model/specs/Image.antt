@@ -1,6 +1,6 @@
 -- What an image holds.
 use Rattle.std.specs.Prelude.{ℕ, ◌/◌, ◌%◌, List, Option, Some, None, unwrap_or, slice_get, slice_index, slice_set, replicate}
-use Rattle.ff_base.specs.Page.{line_of}
+use Rattle.ff_base.specs.Page.{blank_line, line_of}
 use Rattle.ff_base.specs.declared.numbers.TheConstants.{PAGE_BYTES}
 
 -- for each page its bytes, where the image holds it, and for each page the mask of its marked lines
@@ -32,10 +32,6 @@ byte_in (Some page) offset = slice_index page offset
 -- the byte at an address
 abbrev pub byte_at : Content → ℕ → ℕ
 byte_at image at = byte_in (held_page image (at / PAGE_BYTES)) (at % PAGE_BYTES)
-
--- 64 zeros
-unfoldable pub blank_line : List ℕ
-blank_line = replicate 64 0
 
 -- a line of a page, and zeros where the page isn't held
 abbrev pub line_in : Option (List ℕ) → ℕ → List ℕ

@@ -1,5 +1,5 @@
 -- Which histories are legal: those of a flat byte array.
-use Rattle.std.specs.Prelude.{ℕ, ◌+◌, ◌/◌, ◌≤◌, ◌<◌, ◌≡◌, ◌⊎◌, ◌==◌, ◌&&◌, not, min, Bool, true, false, IsTrue, if◌then◌else◌, List, [], ◌∷◌, ◌++◌, map, fold}
+use Rattle.std.specs.Prelude.{ℕ, ◌+◌, ◌/◌, ◌≤◌, ◌<◌, ◌≡◌, ◌⊎◌, ◌==◌, ◌&&◌, not, min, Bool, true, false, IsTrue, if◌then◌else◌, List, [], ◌∷◌, ◌++◌, map, fold, take, slice_get, Some}
 use Rattle.std.specs.List.{range_with_len}
 use Rattle.ff_base.specs.Count.{last_event}
 use Rattle.ff_base.specs.Geometry.{capacity_of}
@@ -111,3 +111,10 @@ LegalAfter opening before (entry ∷ later) = MayFollow opening before entry × 
 -- the history is one of a flat byte array
 abbrev pub IsLegal : Opening → List Entry → Type 0
 IsLegal opening entries = LegalAfter opening [] entries
+
+-- the entry at a place may not stand behind those before it, which are legal
+pub record IsFirstIllegal (opening : Opening) (entries : List Entry) (at : ℕ) : Type 0 where
+  pub before : IsLegal opening (take at entries)
+  pub entry : Entry
+  pub there : slice_get entries at ≡ Some entry
+  pub fails : MayFollow opening (take at entries) entry → ⊥

@@ -136,7 +136,7 @@ fn no_pages(alloc: Global, pages: u32) -> Result<Vec<Option<PageBuf>>, NoMemory>
     Ok(all)
 }
 
-#[tactic(auto, unfolding(crate::specs::Image::blank_line))]
+#[tactic(auto, unfolding(ff_base::specs::Page::blank_line))]
 fn line_of(page: &Option<PageBuf>, line: u8) -> [u8; LINE_BYTES]
     requires { line < 64 }
     ensures { result ≡ line_in page.now line }

@@ -6,6 +6,7 @@ mod counts;
 mod flat;
 mod history;
 mod image;
+mod judge;
 mod op;
 mod piece;
 #[cfg(test)]
@@ -15,5 +16,6 @@ pub use counts::{Counts, Kind, KindTurns, TurnCounts};
 pub use flat::flat_byte;
 pub use history::{Entry, History};
 pub use image::Image;
+pub use judge::first_illegal;
 pub use op::{Op, Reply};
 pub use piece::{PIECE_BYTES, Piece};

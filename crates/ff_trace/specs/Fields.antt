@@ -1,9 +1,9 @@
 -- What the fields of a record say.
-use Rattle.std.specs.Prelude.{ℕ, ◌+◌, ◌-◌, ◌*◌, ◌^◌, ◌==◌, ◌&&◌, nat_le, nat_lt, Bool, false, if◌then◌else◌, List, [], ◌∷◌, length, fold, codes, Option, Some, None, option_map}
+use Rattle.std.specs.Prelude.{ℕ, ◌+◌, ◌-◌, ◌*◌, ◌^◌, ◌==◌, ◌&&◌, nat_le, nat_lt, Bool, false, if◌then◌else◌, List, [], ◌∷◌, length, fold, codes, Option, Some, None, option_map, unwrap_or}
 use Rattle.std.specs.Char.{is_ascii_digit}
 use Rattle.std.specs.List.{list_all}
 use Rattle.std.specs.Str.{bytes_eq}
-use Rattle.hex.specs.Hex.{decode_of}
+use Rattle.hex.specs.Hex.{decode_of, hex_digit_value}
 use Rattle.std.specs.Result.{result_ok}
 use Rattle.ff_model.specs.declared.op.Op.{Op}
 use Rattle.ff_model.specs.declared.op.Op.TheVariants.{Load, Store}
@@ -16,23 +16,29 @@ digits_value digits = fold (λ value digit. 10 * value + (digit - 48)) 0 digits
 
 -- one to ten decimal digits of a value below 2^32
 abbrev pub is_number : List ℕ → Bool
-is_number field = nat_le 1 (length field) && nat_le (length field) 10 && list_all is_ascii_digit field && nat_lt (digits_value field) (2 ^ 32)
+is_number field =
+    nat_le 1 (length field) && nat_le (length field) 10 && list_all is_ascii_digit field
+    && nat_lt (digits_value field) (2 ^ 32)
 
 -- a number
 abbrev pub number_of : List ℕ → Option ℕ
 number_of field = if is_number field then Some (digits_value field) else None
 
 -- at most 64 bytes, as an even count of hexadecimal digits of either case
-abbrev pub bytes_of : List ℕ → Option (List ℕ)
-bytes_of field = if nat_le (length field) 128 then result_ok (decode_of field) else None
+abbrev pub hex_bytes_of : List ℕ → Option (List ℕ)
+hex_bytes_of field = if nat_le (length field) 128 then result_ok (decode_of field) else None
 
--- a load of a place and a length
+-- the value of a hexadecimal digit, and 16 for any other byte
+abbrev pub digit_or_sixteen : ℕ → ℕ
+digit_or_sixteen byte = unwrap_or (hex_digit_value byte) 16
+
+-- a load of an address and a length
 abbrev pub load_of : Option ℕ → Option ℕ → Option Op
 load_of (Some at) (Some len) = Some (Load at len)
 load_of (Some at) None = None
 load_of None len = None
 
--- a store to a place of some bytes
+-- a store to an address of some bytes
 abbrev pub store_of : Option ℕ → Option (List ℕ) → Option Op
 store_of (Some at) (Some bytes) = Some (Store at bytes)
 store_of (Some at) None = None
@@ -42,7 +48,7 @@ store_of None bytes = None
 abbrev pub op_of : List ℕ → List ℕ → List ℕ → Option Op
 op_of op a b =
     if bytes_eq op (codes "load") then load_of (number_of a) (number_of b)
-    else if bytes_eq op (codes "store") then store_of (number_of a) (bytes_of b)
+    else if bytes_eq op (codes "store") then store_of (number_of a) (hex_bytes_of b)
     else None
 
 -- a caller: there is one so far, caller 0
@@ -51,10 +57,14 @@ is_caller field = is_number field && (digits_value field == 0)
 
 -- a row, from the fields of a record
 abbrev pub row_of : List (List ℕ) → Option Row
-row_of (caller ∷ op ∷ a ∷ b ∷ []) = if is_caller caller then option_map (λ call. Call (record { 0 = 0 }) call) (op_of op a b) else None
+row_of (caller ∷ op ∷ a ∷ b ∷ []) =
+    if is_caller caller then option_map (λ call. Call (record { 0 = 0 }) call) (op_of op a b)
+    else None
 row_of fields = None
 
 -- the header names the four fields
 abbrev pub is_header : List (List ℕ) → Bool
-is_header (caller ∷ op ∷ a ∷ b ∷ []) = bytes_eq caller (codes "caller") && bytes_eq op (codes "op") && bytes_eq a (codes "a") && bytes_eq b (codes "b")
+is_header (caller ∷ op ∷ a ∷ b ∷ []) =
+    bytes_eq caller (codes "caller") && bytes_eq op (codes "op") && bytes_eq a (codes "a")
+    && bytes_eq b (codes "b")
 is_header fields = false

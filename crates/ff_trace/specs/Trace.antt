@@ -5,7 +5,6 @@ use Rattle.csv.specs.declared.parser.State.{State}
 use Rattle.csv.specs.declared.parser.State.TheVariants as st
 use Rattle.ff_trace.specs.Fields.{is_header, row_of}
 use Rattle.ff_trace.specs.declared.row.Row.{Row}
-use Rattle.ff_trace.specs.declared.trace_rows.TheConstants.{MAX_ROWS}
 use Rattle.ff_trace.specs.declared.trace_rows.BadTrace.{BadTrace}
 use Rattle.ff_trace.specs.declared.trace_rows.BadTrace.TheVariants as bad
 
@@ -15,12 +14,19 @@ HasRecords bytes records = AreRecords default_config st.StartRecord (strip_bom b
 
 -- a text begins with these records
 abbrev pub BeginsWith : List ℕ → List (List (List ℕ)) → Type 0
-BeginsWith bytes records = (state : State) × (rest : List ℕ) × Reached default_config st.StartRecord (strip_bom bytes) records state rest
+BeginsWith bytes records =
+    (state : State) × (rest : List ℕ)
+    × Reached default_config st.StartRecord (strip_bom bytes) records state rest
 
--- the record of this number is of one of the forms: record 0 is the header, and at most `MAX_ROWS` rows follow
+-- the most rows of a trace, without its header
+abbrev pub most_rows : ℕ
+most_rows = 262144
+
+-- the record of this number is of one of the forms: record 0 is the header, and at most `most_rows`
+-- rows follow. The numbers count records, and not lines of the text.
 abbrev pub is_good : ℕ → List (List ℕ) → Bool
 is_good zero fields = is_header fields
-is_good (suc before) fields = nat_le (suc before) MAX_ROWS && is_some (row_of fields)
+is_good (suc before) fields = nat_le (suc before) most_rows && is_some (row_of fields)
 
 -- each of these records, numbered from there on, is of one of the forms
 abbrev pub AreGood : ℕ → List (List (List ℕ)) → Type 0

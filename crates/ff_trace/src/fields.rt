@@ -1,8 +1,10 @@
+// The fields of a record: decimal numbers and bytes in hexadecimal digits.
 ghost use Rattle.std.specs.Prelude.{◌≡◌, ◌≤◌, length};
 ghost use Rattle.std.specs.List.{list_all};
 ghost use Rattle.std.specs.Char.{is_ascii_digit};
-ghost use Rattle.ff_trace.specs.Fields.{bytes_of, digits_value, number_of};
+ghost use Rattle.ff_trace.specs.Fields.{digits_value, hex_bytes_of, number_of};
 
+use crate::hex_pairs::decode;
 use ff_model::{PIECE_BYTES, Piece};
 
 const MOST_DIGITS: usize = 10;
@@ -37,13 +39,16 @@ fn value(digits: &[u8]) -> u64
 
 /// The bytes of an even count of hexadecimal digits, at most those of a piece.
 pub(crate) fn bytes(field: &[u8]) -> Option<Piece>
-    ensures { result ≡ bytes_of field.now }
+    ensures { result ≡ hex_bytes_of field.now }
 {
-    if field.len() > 2 * PIECE_BYTES {
+    if field.len() > 2 * PIECE_BYTES || field.len() % 2 != 0 {
         return None;
     }
     let mut room = [0; PIECE_BYTES];
     let bytes = &mut room[..field.len() / 2];
-    hex::decode_to_slice(field, bytes).ok()?;
-    Some(Piece::from_slice(bytes))
+    if decode(field, bytes) {
+        Some(Piece::from_slice(bytes))
+    } else {
+        None
+    }
 }

@@ -2,6 +2,7 @@
 #![tactic(auto)]
 
 mod fields;
+mod hex_pairs;
 mod row;
 #[cfg(test)]
 mod tests;

@@ -1,3 +1,4 @@
+// The row that a record is.
 ghost use Rattle.std.specs.Prelude.{◌≡◌, ◌<◌, ◌∷◌, [], Some, length};
 ghost use Rattle.csv.specs.Records.{field_at, fields_of};
 ghost use Rattle.ff_trace.specs.Fields.{is_caller, is_header, load_of, op_of, row_of, store_of};

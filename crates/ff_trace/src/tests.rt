@@ -1,3 +1,4 @@
+// Texts and their rows, and texts that are refused.
 ghost use Rattle.std.specs.Prelude.{◌≤◌, length};
 
 use super::*;

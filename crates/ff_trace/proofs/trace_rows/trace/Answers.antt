@@ -12,7 +12,7 @@ returns-then-not-is_header-clause-cause c =
     inl (bad_header _ _ _ _ _ c.reader-reader.ensures c.in_ok-read.ensures.reads c.if-not-branch.false (sym c.is_header.ensures ∙ c.if-not-is_header.true))
 
 pub loop-number-init : goal.loop-number-init
-loop-number-init c = rw c.new-rows.ensures.items record {
+loop-number-init c = rw c.in_ok-rows.ensures.empty record {
   rows = rows-start _ _ _ _ _ c.reader-reader.ensures c.in_ok-read.ensures.reads c.if-not-branch.false (sym c.is_header.ensures ∙ c.if-not-is_header.false);
   count = omega arith;
 }
