@@ -6,7 +6,7 @@ ghost use Rattle.ff_core.specs.Core.{fresh_core};
 ghost use Rattle.ff_trace.specs.Tally.{most_rows};
 ghost use Rattle.flatflash.specs.Ending.{IsEnd, IsRefused, IsRunCause, ReadsRows, RunsInput};
 ghost use Rattle.flatflash.specs.Input.{source_change};
-ghost use Rattle.flatflash.specs.Runs.{AreNextNumbers, AreRun, HasAnswered, IsFirstSession, after_row, caller_of, first_other, is_run};
+ghost use Rattle.flatflash.specs.Runs.{AreNextNumbers, AreRun, HasAnswered, IsFirstSession, after_row, row_caller, first_other, is_run};
 
 use crate::input::{BadInput, read_all, trace_bytes};
 use crate::refusal::Refusal;
@@ -153,11 +153,11 @@ fn drive_each(core: &mut Core, numbers: &mut [u32], rows: &[Row])
 fn drive_row(core: &mut Core, numbers: &mut [u32], row: &Row)
     requires run { is_run row.now ≡ true }
     requires size { length numbers.old ≡ 64 }
-    requires few { slice_index numbers.old (caller_of row.now) < most_rows }
+    requires few { slice_index numbers.old (row_caller row.now) < most_rows }
     requires room { 0 < core.old.spare_calls }
-    ensures core { core.new ≡ after_row core.old (slice_index numbers.old (caller_of row.now)) row.now }
+    ensures core { core.new ≡ after_row core.old (slice_index numbers.old (row_caller row.now)) row.now }
     ensures numbers { numbers.new
-        ≡ slice_set numbers.old (caller_of row.now) (slice_index numbers.old (caller_of row.now) + 1) }
+        ≡ slice_set numbers.old (row_caller row.now) (slice_index numbers.old (row_caller row.now) + 1) }
 {
     match row {
         Row::Call { caller, op } => {

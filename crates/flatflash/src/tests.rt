@@ -97,7 +97,10 @@ fn other_words_are_refused(rt: HostRuntime) -> Result<(), Fail> {
         let mut sink = sink(alloc, 0)?;
         let outcome = schedule(alloc, &words, &mut source, &mut sink);
         assert_eq!(rt; outcome.status, 1);
-        assert_eq!(rt; sink.written(), b"usage: flatflash schedule, threads or load N\n".as_slice());
+        assert_eq!(rt;
+            sink.written(),
+            b"usage: flatflash schedule, threads or load N\n".as_slice()
+        );
         assert!(rt; outcome.sessions.is_empty());
     }
     Ok(())
