@@ -67,7 +67,7 @@ like-located m d m' d' located is =
       };
     }
 
-line-like : (frames frames' : List Frame) (d d' : DeviceState) (page line : ℕ) (from : Option ℕ)
+pub line-like : (frames frames' : List Frame) (d d' : DeviceState) (page line : ℕ) (from : Option ℕ)
     → ((frame : ℕ) → IsAlike (frame_at frames frame) (frame_at frames' frame)) → SameAt d d' page
     → line_from frames' d' page line from ≡ line_from frames d page line from
 line-like frames frames' d d' page line None alike same = same.lines line
@@ -132,7 +132,7 @@ like-referred m d frame on = record {
   pages = refl;
 }
 
-like-none : (m : MemoryView) (d : DeviceState) → IsLike m d m d
+pub like-none : (m : MemoryView) (d : DeviceState) → IsLike m d m d
 like-none m d = record {
   frames = λ frame. alike-same (frame_at m.frames frame) (frame_at m.frames frame) refl;
   table = refl;

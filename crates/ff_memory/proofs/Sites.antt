@@ -60,7 +60,7 @@ leaving_flight-other : (one other : Frame) (bits : LineMask) (flight : Option Fl
 leaving_flight-other one other bits None alike is = is
 leaving_flight-other one other bits (Some flight) alike is = (is.0, is.1, is.2 ∙ sym (same_line one other flight.line alike))
 
-flying-other : (way : Way) (one other : Frame) (d d' : DeviceState) (page : ℕ) (home : Home) (entry : Slot) → IsAlike one other
+pub flying-other : (way : Way) (one other : Frame) (d d' : DeviceState) (page : ℕ) (home : Home) (entry : Slot) → IsAlike one other
     → SameAt d d' page → IsFlyingBy way one d page home entry → IsFlyingBy way other d' page home entry
 flying-other Coming one other d d' page home entry alike same is = record {
   home_is = is.home_is;
