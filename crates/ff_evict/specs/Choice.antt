@@ -7,6 +7,7 @@ use Rattle.ff_plb.specs.declared.slot.Slot.{Slot}
 
 -- the frame holds a page that isn't in flight: it has no entry in the buffer
 pub record MayRetreat (frames : List Frame) (slots : List (Option Slot)) (frame : ℕ) : Type 0 where
+  pub in_range : frame < length frames
   pub used : IsSome (frame_at frames frame).page
   pub no_entry : IfSome (frame_at frames frame).page (λ page. entry_of slots page.0 ≡ None)
 
@@ -25,10 +26,10 @@ pub record IsFirstLeast (Passes : ℕ → Type 0) (score steps : ℕ → ℕ) (f
   pub first : (other : ℕ) → Passes other → score other ≡ score frame → steps frame ≤ steps other
 
 -- the frame whose page goes back
-abbrev pub IsChosen : (Bool → ℕ → ℕ) → List Frame → List (Option Slot) → ℕ → ℕ → Type 0
-IsChosen score frames slots hand frame =
+abbrev pub IsChosenFrame : (Bool → ℕ → ℕ) → List Frame → List (Option Slot) → ℕ → ℕ → Type 0
+IsChosenFrame score frames slots hand frame =
     IsFirstLeast (MayRetreat frames slots) (score_of score frames) (steps_after (length frames) hand) frame
 
 -- no frame's page may go back
-abbrev pub IsNoChoice : List Frame → List (Option Slot) → Type 0
-IsNoChoice frames slots = (frame : ℕ) → MayRetreat frames slots frame → ⊥
+abbrev pub IsNoneToRetreat : List Frame → List (Option Slot) → Type 0
+IsNoneToRetreat frames slots = (frame : ℕ) → MayRetreat frames slots frame → ⊥

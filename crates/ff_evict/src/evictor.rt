@@ -1,7 +1,7 @@
 // The choice of the page that goes back to the SSD.
 ghost use Rattle.std.specs.Prelude.{ℕ, ◌≡◌, ◌+◌, ◌%◌, ◌<◌, ◌≤◌, ◌↔◌, IsTrue, MatchOption, length};
 ghost use Rattle.ff_evict.specs.Best.{IsBestOfFirst};
-ghost use Rattle.ff_evict.specs.Choice.{IsChosen, IsNoChoice, MayRetreat, score_of, steps_after};
+ghost use Rattle.ff_evict.specs.Choice.{IsChosenFrame, IsNoneToRetreat, MayRetreat, score_of, steps_after};
 ghost use Rattle.ff_evict.specs.Evictor.{IsHandInside};
 
 use crate::picker::{Pick, Picker};
@@ -95,8 +95,8 @@ impl<E: Pick> Evictor<E> {
     /// the hand on, round. It goes over every frame once.
     pub fn choose(&self, frames: &Frames, busy: &Plb) -> Option<u32>
         requires { IsHandInside self.now.hand frames.now }
-        ensures { MatchOption result (IsNoChoice frames.now busy.now)
-            (IsChosen (E.score self.now.picker.pick) frames.now busy.now self.now.hand) }
+        ensures { MatchOption result (IsNoneToRetreat frames.now busy.now)
+            (IsChosenFrame (E.score self.now.picker.pick) frames.now busy.now self.now.hand) }
     {
         let count = frames.len();
         let mut best = None;
@@ -104,7 +104,7 @@ impl<E: Pick> Evictor<E> {
             let frame = frame_after(self.hand, seen, count);
             best = self.better(frames, busy, frame, seen, best);
         }
-        best.map(|best| best.frame)
+        Some(best?.frame)
     }
 
     /// The frame at which the next choice begins.
@@ -120,7 +120,8 @@ impl<E: Pick> Evictor<E> {
         ensures hand { self.new ≡ record self.old { hand = (frame + 1) % length frames.now } }
         ensures inside { self.new.hand < length frames.now }
     {
-        self.hand = (frame + 1) % frames.len();
+        let count = frames.len();
+        self.hand = (frame + 1) % count;
     }
 
     /// The picker that it was made with.
