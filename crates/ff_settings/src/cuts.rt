@@ -11,7 +11,7 @@ ghost use Rattle.ff_settings.specs.Settings.{cut_in, cut_of};
 ghost use Rattle.ff_settings.specs.Values.{whole_number_of};
 
 use crate::document::value_at;
-use crate::values::{whole_number_of, number_or, short};
+use crate::values::{number_or, short, whole_number_of};
 use ff_flash::CutAt;
 use std::alloc::{AllocError, Global};
 use toml::{Table, Value};

@@ -8,7 +8,7 @@ ghost use Rattle.ff_settings.specs.Settings.{first_of_other_kind};
 use crate::cuts::are_cuts;
 use crate::document::value_at;
 use crate::names::{SettingName, setting_names};
-use crate::values::{are_numbers, may_be_array, may_be_number, items_in};
+use crate::values::{are_numbers, items_in, may_be_array, may_be_number};
 use toml::{Table, Value};
 
 /// The first setting whose value has another kind.

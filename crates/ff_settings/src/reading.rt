@@ -14,7 +14,7 @@ use crate::document::{document, value_at};
 use crate::given::{BadSettings, Settings};
 use crate::keys::has_known_keys;
 use crate::kinds::first_of_other_kind;
-use crate::values::{whole_number_of, number_or, numbers_of, short, items_in};
+use crate::values::{items_in, number_or, numbers_of, short, whole_number_of};
 use ff_base::Geometry;
 use ff_flash::Plan;
 use std::alloc::{AllocError, Global};
