@@ -3,10 +3,14 @@ ghost use Rattle.std.specs.Prelude.{◌≡◌, false, MatchResult};
 ghost use Rattle.ff_device.specs.DeviceFields.{parts_of};
 ghost use Rattle.ff_device.specs.Parts.{CanBegin, IsDeviceSound};
 
+mod choosing;
 mod draining;
+mod fetching;
+mod flushing;
 mod lines;
 mod posting;
 mod slots;
+mod working;
 
 use crate::Store;
 use ff_base::PageBuf;
