@@ -17,7 +17,7 @@ same_but_values old new same = rw (sym same.slots, sym same.sets, sym same.ways)
 pub same_cache : (old new : CacheView) → SameSlots old new → new.values ≡ old.values → new ≡ old
 same_cache old new same values = same_but_values old new same ∙ ap (λ (v : List (List ℕ)). record old { values = v }) values
 
-values_size : (cache : CacheView) (page : ℕ) → IsCacheSound cache → length (values_of cache page) ≡ cache.ways
+pub values_size : (cache : CacheView) (page : ℕ) → IsCacheSound cache → length (values_of cache page) ≡ cache.ways
 values_size cache page sound = sound.values.each (set_of cache page) (mod-lt page sound.sizes.some_sets)
 
 -- no way may give way

@@ -22,15 +22,15 @@ use Rattle.ff_device.proofs.Oldest.{some_chosen}
 use Rattle.ff_device.proofs.Sealing.{sealing_flush, sealing_slot, Sealing}
 
 -- the steps of a page that isn't resident, with and without a flush that waits
-steps_waiting : (parts : Parts) (page : ℕ) (flush : Pending) → held parts.cache.slots page ≡ None → parts.store.pending ≡ Some flush
+pub steps_waiting : (parts : Parts) (page : ℕ) (flush : Pending) → held parts.cache.slots page ≡ None → parts.store.pending ≡ Some flush
     → steps_to parts page ≡ suc (1 + steps_of_set parts page)
 steps_waiting parts page flush absent waits = rw (absent, waits) refl
 
-steps_idle : (parts : Parts) (page : ℕ) → held parts.cache.slots page ≡ None → parts.store.pending ≡ None
+pub steps_idle : (parts : Parts) (page : ℕ) → held parts.cache.slots page ≡ None → parts.store.pending ≡ None
     → steps_to parts page ≡ suc (0 + steps_of_set parts page)
 steps_idle parts page absent idle = rw (absent, idle) refl
 
-steps_full : (parts : Parts) (page : ℕ) (way : Option ℕ) → is_full_set parts.cache page ≡ true → chosen_way parts page ≡ way
+pub steps_full : (parts : Parts) (page : ℕ) (way : Option ℕ) → is_full_set parts.cache page ≡ true → chosen_way parts page ≡ way
     → steps_of_set parts page ≡ steps_of_way parts page way
 steps_full parts page way full choice = rw (full, choice) refl
 
@@ -167,13 +167,18 @@ either_less : (full : Bool) (n m : ℕ) → n ≤ m → (if full then n else 0) 
 either_less true n m less = less
 either_less false n m less = omega arith
 
+slot_less : (a b : StoreView) (one other : Slot) → soon_clean a.pending one ≡ soon_clean b.pending other → flush_steps a ≤ flush_steps b
+    → steps_of_slot a one ≤ steps_of_slot b other
+slot_less a b one other same less = rw same (less_if (soon_clean b.pending other) (flush_steps a) (flush_steps b) less)
+
 sealed_way : (page wanted : ℕ) (old new : Parts) → (s : Sealing page old new) → SameFrames old.cache new.cache
     → flush_steps new.store ≤ flush_steps old.store → (way : Option ℕ) → steps_of_way new wanted way ≤ steps_of_way old wanted way
 sealed_way page wanted old new s frames less None = omega arith
 sealed_way page wanted old new s frames less (Some way) =
     let k : ℕ = wanted % old.cache.sets * old.cache.ways + way in
-    rw (s.seals.done, s.seals.waited, frames.sets, frames.ways, sealed_soon page old new s k)
-    (less_if (soon_clean (Some s.seals.flush) (slot_at old.cache.slots k)) (flush_steps new.store) (flush_steps old.store) less)
+    let soon : soon_clean new.store.pending (way_at new.cache wanted way) ≡ soon_clean old.store.pending (way_at old.cache wanted way) =
+    rw (s.seals.done, s.seals.waited, frames.sets, frames.ways) (sealed_soon page old new s k) in
+    slot_less new.store old.store (way_at new.cache wanted way) (way_at old.cache wanted way) soon less
 
 -- the flush that waited was sealed
 pub sealed_falls : (page wanted : ℕ) (old new : Parts) → (s : Sealing page old new) → IsStore new.store

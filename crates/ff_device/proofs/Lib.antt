@@ -16,3 +16,8 @@ pub mod Programming
 pub mod Sealing
 pub mod Falls
 pub mod Frames
+pub mod Keeping
+pub mod Raising
+pub mod Working
+pub mod Arriving
+pub mod Collecting

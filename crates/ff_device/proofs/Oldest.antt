@@ -118,7 +118,7 @@ raised_at_from way allowed by (value ∷ later) (suc j) within =
     let there : way + 1 + j ≡ way + suc j = omega arith in
     raised_at_from (way + 1) allowed by later j (omega arith) ∙ ap (λ (k : ℕ). raised_value allowed by k (get_or later j 0)) there
 
-length-raised_from : (way allowed by : ℕ) (values : List ℕ) → length (raised_from way allowed by values) ≡ length values
+pub length-raised_from : (way allowed by : ℕ) (values : List ℕ) → length (raised_from way allowed by values) ≡ length values
 length-raised_from way allowed by [] = refl
 length-raised_from way allowed by (value ∷ later) = ap suc (length-raised_from (way + 1) allowed by later)
 

@@ -21,6 +21,8 @@ pub record StoreView : Type 0 where
   pub left : ℕ
   -- the most that these can be
   pub most_left : ℕ
+  -- a collection runs, or is due
+  pub wants : Bool
   -- how many pages may be mapped
   pub capacity : ℕ
   -- the power is on

@@ -132,3 +132,18 @@ pub data IsStep (page : ℕ) (old : Parts) (result : Work) (new : Parts) : Type 
   flushes : old.store.pending ≡ None → is_full_set old.cache page ≡ true → (slot : ℕ) (mid : Parts)
     → IsRaised page slot old mid → (slot_at old.cache.slots slot).dirty ≡ true → FlushRow slot result mid new
     → IsStep page old result new
+
+-- a step of the collector
+abbrev pub CollectRow : Work → Parts → Parts → Type 0
+CollectRow Stepped old new = IsStopped old new × (new.store.pending ≡ None)
+CollectRow Failed old new = IsStopped old new × (new.store.pending ≡ None)
+CollectRow Off old new = IsStopped old new × (new.store.pending ≡ None)
+CollectRow Ready old new = ⊥
+CollectRow (Pinned other) old new = ⊥
+
+-- a turn of the collector: a flush that waits is sealed, or a collection that runs or is due makes a step
+pub data IsCollectTurn (old : Parts) (result : Work) (new : Parts) : Type 0 where
+  turn_off : old.store.on ≡ false → result ≡ Off → new ≡ old → IsCollectTurn old result new
+  turn_seals : is_some old.store.pending ≡ true → SealRow result old new → IsCollectTurn old result new
+  turn_collects : old.store.pending ≡ None → old.store.wants ≡ true → CollectRow result old new → IsCollectTurn old result new
+  turn_idle : old.store.pending ≡ None → old.store.wants ≡ false → result ≡ Ready → new ≡ old → IsCollectTurn old result new

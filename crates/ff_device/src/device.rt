@@ -3,7 +3,9 @@ ghost use Rattle.std.specs.Prelude.{◌≡◌, false, MatchResult};
 ghost use Rattle.ff_device.specs.DeviceFields.{parts_of};
 ghost use Rattle.ff_device.specs.Parts.{CanBegin, IsDeviceSound};
 
+mod arriving;
 mod choosing;
+mod collecting;
 mod draining;
 mod fetching;
 mod flushing;
@@ -82,5 +84,31 @@ impl<S: Store> Device<S> {
         ensures { result.now ≡ self.now.store }
     {
         &self.store
+    }
+
+    /// The store, the cache and the window.
+    pub fn into_parts(self) -> DeviceParts<S>
+        ensures { result ≡ record { store = self.store; cache = self.cache; window = self.window } }
+    {
+        let Device {
+            store,
+            cache,
+            window,
+            page: _,
+        } = self;
+        DeviceParts {
+            store,
+            cache,
+            window,
+        }
+    }
+
+    /// Turns the power off. Nothing else changes.
+    pub fn power_off(&mut self)
+        ensures store { S.seen self.new.store ≡ record (S.seen self.old.store) { on = false } }
+        ensures cache { self.new.cache ≡ self.old.cache }
+        ensures window { self.new.window ≡ self.old.window }
+    {
+        self.store.power_off();
     }
 }

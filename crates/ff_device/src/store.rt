@@ -71,7 +71,8 @@ pub trait Store {
         ensures same { SameStore (seen self.old) (seen self.new) };
 
     /// Whether a collection runs or is due.
-    fn wants_collect(&self) -> bool;
+    fn wants_collect(&self) -> bool
+        ensures { result ≡ (seen self.now).wants };
 
     /// Makes one step of the collector, while no flush is to be sealed.
     fn collect_step(&mut self) -> Result<(), FlashStop>

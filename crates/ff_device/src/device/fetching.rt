@@ -6,6 +6,7 @@ ghost use Rattle.ff_device.specs.DeviceFields.{parts_of};
 ghost use Rattle.ff_device.specs.Steps.{may_go};
 ghost use Rattle.ff_device.specs.Store.{SameStore};
 ghost use Rattle.ff_device.specs.WorkRows.{FetchRow, Powered};
+ghost use Rattle.ff_lines.specs.Works.{IsIdle};
 
 use crate::{Device, Store};
 use ff_base::PageNo;
@@ -24,6 +25,7 @@ impl<S: Store> Device<S> {
         ensures row { FetchRow page.0 slot result (parts_of S.seen self.old) (parts_of S.seen self.new) }
         ensures powers { Powered result (S.seen self.old.store) (S.seen self.new.store) }
         ensures same { SameStore (S.seen self.old.store) (S.seen self.new.store) }
+        ensures busy { IsIdle result → ⊥ }
     {
         self.cache.known();
         match self.store.fetch(page, &mut self.page) {

@@ -4,6 +4,7 @@ ghost use Rattle.ff_cache.specs.Slots.{slot_at};
 ghost use Rattle.ff_device.specs.DeviceFields.{parts_of};
 ghost use Rattle.ff_device.specs.Store.{SameStore};
 ghost use Rattle.ff_device.specs.WorkRows.{FlushRow, Powered, SealRow};
+ghost use Rattle.ff_lines.specs.Works.{IsIdle};
 
 use super::slots::{begin_flush, end_flush};
 use crate::{Device, FlushStep, Store};
@@ -19,6 +20,7 @@ impl<S: Store> Device<S> {
         ensures row { SealRow result (parts_of S.seen self.old) (parts_of S.seen self.new) }
         ensures powers { Powered result (S.seen self.old.store) (S.seen self.new.store) }
         ensures same { SameStore (S.seen self.old.store) (S.seen self.new.store) }
+        ensures busy { IsIdle result → ⊥ }
     {
         self.cache.known();
         self.store.known();
@@ -44,6 +46,7 @@ impl<S: Store> Device<S> {
         ensures row { FlushRow slot result (parts_of S.seen self.old) (parts_of S.seen self.new) }
         ensures powers { Powered result (S.seen self.old.store) (S.seen self.new.store) }
         ensures same { SameStore (S.seen self.old.store) (S.seen self.new.store) }
+        ensures busy { IsIdle result → ⊥ }
     {
         self.cache.known();
         self.cache.copy_out(slot, &mut self.page);
@@ -68,6 +71,7 @@ impl<S: Store> Device<S> {
         ensures row { FlushRow slot result (parts_of S.seen self.old) (parts_of S.seen self.new) }
         ensures powers { Powered result (S.seen self.old.store) (S.seen self.new.store) }
         ensures same { SameStore (S.seen self.old.store) (S.seen self.new.store) }
+        ensures busy { IsIdle result → ⊥ }
     {
         self.cache.known();
         match self.cache.page(slot) {
