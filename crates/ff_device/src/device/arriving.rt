@@ -32,6 +32,7 @@ impl<S: Store> Device<S> {
     }
 
     /// So many of the oldest posts arrive, and the others are lost: the first position that was.
+    #[tactic(auto, using(crate::proofs::Arriving::take_some, crate::proofs::Arriving::drop_some))]
     pub fn arrive(&mut self, count: u32) -> Option<u32>
         ensures lost { result ≡ first_position (drop count self.old.window.posts) }
         ensures below { (page line : ℕ) → line_below (parts_of S.seen self.new) page line
