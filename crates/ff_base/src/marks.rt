@@ -27,6 +27,15 @@ impl Marks {
         Ok(Marks { masks })
     }
 
+    /// Equal marks.
+    pub fn copy(&self, alloc: Global) -> Result<Marks, NoMemory>
+        ensures { IfOk result (λ marks. marks ≡ self.now) }
+    {
+        let mut masks = Vec::with_capacity(alloc, self.masks.len())?;
+        masks.extend_from_slice(&self.masks)?;
+        Ok(Marks { masks })
+    }
+
     /// Marks these lines of the page and no other of it.
     pub fn set_lines(&mut self, page: PageNo, lines: u64)
         requires { page.0 < length self.old }
@@ -41,13 +50,5 @@ impl Marks {
         ensures { result ≡ slice_index self.now page.0 }
     {
         self.masks[page.0 as usize]
-    }
-
-    /// Marks with the same lines.
-    pub fn copy(&self, alloc: Global) -> Result<Marks, NoMemory>
-        ensures { IfOk result (λ marks. marks ≡ self.now) }
-    {
-        let masks = self.masks.to_vec(alloc)?;
-        Ok(Marks { masks })
     }
 }

@@ -2,9 +2,9 @@
 use Rattle.std.proofs.Common.{◌≡◌, ◌≢◌, ◌≤◌, ◌<◌, inl, inr, ℕ, ◌+◌, ◌==◌, true, false, List, length, refl, sym, ap, ◌∙◌, arith}
 use Rattle.std.specs.Prelude.{if◌then◌else◌, nat_lt}
 use Rattle.std.proofs.lemmas.Bool.{cases_eq, cases_lt, eq-eqb, ne_eqb, lt-ltb, le-ltb}
-use Rattle.ff_base.specs.Page.{blank_page, line_of, with_line}
+use Rattle.ff_base.specs.Page.{blank_line, blank_page, line_of, with_line}
 use Rattle.ff_base.proofs.PageLines.{length-line_of, length-with_line, line_of-with_line_same, line_of-with_line_other}
-use Rattle.ff_lines.specs.BlankLine.{blank_line, line_or_blank}
+use Rattle.ff_lines.specs.BlankLine.{line_or_blank}
 use Rattle.ff_lines.specs.Overlay.{overlaid, page_overlaid}
 use Rattle.ff_lines.specs.Posts.{laid_on, IsPost}
 use Rattle.ff_lines.specs.declared.post.Post.{Post}

@@ -1,10 +1,6 @@
 -- The lines of a page, for every line number.
-use Rattle.std.specs.Prelude.{ℕ, List, nat_lt, replicate, if◌then◌else◌}
-use Rattle.ff_base.specs.Page.{line_of}
-
--- a line of zeros
-unfoldable pub blank_line : List ℕ
-blank_line = replicate 64 0
+use Rattle.std.specs.Prelude.{ℕ, List, nat_lt, if◌then◌else◌}
+use Rattle.ff_base.specs.Page.{blank_line, line_of}
 
 -- a line of a page, and a line of zeros past the page's last
 abbrev pub line_or_blank : List ℕ → ℕ → List ℕ

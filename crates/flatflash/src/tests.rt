@@ -1,4 +1,6 @@
-use crate::schedule::{Outcome, schedule};
+// Inputs with their status and text, and calls in which a read or a write fails.
+use crate::outcome::Outcome;
+use crate::schedule::schedule;
 use ff_base::NoMemory;
 use ff_io::{MemorySink, MemorySource};
 use std::alloc::{AllocError, Global};

@@ -1,3 +1,4 @@
+// The words that the program was started with.
 ghost use Rattle.std.specs.Prelude.{◌≡◌, map};
 ghost use Rattle.std.specs.String.{string_bytes};
 ghost use Rattle.flatflash.specs.Words.{is_schedule};
