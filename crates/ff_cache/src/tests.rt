@@ -63,7 +63,10 @@ fn pages_are_found_in_their_sets(rt: HostRuntime) -> Result<(), Fail> {
     assert_eq!(rt; fill(rt.alloc(), &mut cache, PageNo(9))?, None);
     assert_eq!(rt; fill(rt.alloc(), &mut cache, PageNo(4))?, Some(0));
     write(&mut cache, PageNo(7));
-    assert_eq!(rt; &line_3(&cache, PageNo(7)).ok_or("cached")?[..4], [1, 7, 8, 1].as_slice());
+    assert_eq!(rt;
+        &line_3(&cache, PageNo(7)).ok_or("cached")?[..4],
+        [1, 7, 8, 1].as_slice()
+    );
     use_again(&mut cache, PageNo(5));
     assert_eq!(rt; cache.choose(PageNo(9), 3), Some(3));
     assert_eq!(rt; cache.choose(PageNo(9), 1), Some(2));

@@ -1,10 +1,9 @@
 -- The posts that waited are lost.
-use Rattle.std.proofs.Common.{◌≡◌, ◌≢◌, ◌<◌, ◌≤◌, inl, inr, ℕ, ◌||◌, ◌⊎◌, Bool, true, false, List, [], length, take, drop, min, refl, sym, ap, ◌∙◌, arith, Option, Some, None}
+use Rattle.std.proofs.Common.{◌≡◌, ◌≤◌, inl, inr, ℕ, ◌||◌, Bool, true, false, List, [], length, take, drop, min, refl, sym, ◌∙◌, arith}
 use Rattle.std.proofs.Math.ListN.{drop_of_length-le}
-use Rattle.std.proofs.lemmas.Bool.{cases_lt, or_cases, or_left, or_right}
+use Rattle.std.proofs.lemmas.Bool.{cases_lt}
 use Rattle.std.proofs.lemmas.List.{take_all}
 use Rattle.std.proofs.lemmas.List.Elements.{All-nil}
-use Rattle.ff_lines.specs.PageSets.{count_below}
 use Rattle.ff_lines.specs.Posts.{waits_in, IsPost}
 use Rattle.ff_lines.specs.declared.post.Post.{Post}
 use Rattle.ff_lines.proofs.PageCounts.{count_below-part}
@@ -28,7 +27,7 @@ emptied_sound old window sound none room = record {
   waiting = λ p waits. let never : false ≡ true = rw none at waits in absurd (cc);
   room =
       let part = count_below-part (is_written (record old { window = window })) (is_written old) (length old.store.pages) (λ p is.
-          less_written (is_mapped old.store p) (is_dirty old p) (waits_in old.window.posts p) (rw none at is)) in
+      less_written (is_mapped old.store p) (is_dirty old p) (waits_in old.window.posts p) (rw none at is)) in
       let few = sound.room in
       omega arith;
   window = rw room sound.window;

@@ -1,5 +1,5 @@
 -- What a choice changes, and that the chosen way is that of the definition, before and after.
-use Rattle.std.proofs.Common.{◌≡◌, ◌<◌, ℕ, Bool, true, false, List, length, refl, sym, ap, ◌∙◌, arith, Option, Some, None}
+use Rattle.std.proofs.Common.{◌≡◌, ◌<◌, ℕ, List, length, refl, sym, ap, ◌∙◌, arith, Option, Some, None}
 use Rattle.std.proofs.Math.Nat.{mod-lt}
 use Rattle.ff_cache.specs.Cache.{set_of, values_of, CacheView, IsCacheSound, IsChosen, SameSlots}
 use Rattle.ff_rrip.specs.Ways.{is_allowed, NoneAllowed}
@@ -57,4 +57,3 @@ choose_told old page allowed cache (Some slot) sound told same is = record {
   chosen = is;
   is = ap (λ (c : CacheView). record old { cache = c }) same;
 }
-

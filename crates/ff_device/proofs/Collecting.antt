@@ -1,5 +1,5 @@
 -- A turn of the collector keeps the lines.
-use Rattle.std.proofs.Common.{◌≡◌, refl, Option, Some, None}
+use Rattle.std.proofs.Common.{refl}
 use Rattle.ff_cache.specs.Cache.{IsCacheSound}
 use Rattle.ff_cache.specs.Slots.{slot_flushed}
 use Rattle.ff_lines.specs.Works.{KeepsLines}
@@ -8,7 +8,7 @@ use Rattle.ff_lines.specs.declared.device.Work.TheVariants.{Ready, Stepped, Pinn
 use Rattle.ff_device.specs.DeviceFields.{lines_of}
 use Rattle.ff_device.specs.Parts.{IsDeviceSound, Parts}
 use Rattle.ff_device.specs.Store.{IsStore, SameStore}
-use Rattle.ff_device.specs.WorkRows.{turn_off, turn_seals, turn_collects, turn_idle, CollectRow, IsCollectTurn, IsSealed, Powered, SealRow}
+use Rattle.ff_device.specs.WorkRows.{turn_off, turn_seals, turn_collects, turn_idle, CollectRow, IsCollectTurn, Powered, SealRow}
 use Rattle.ff_device.proofs.Keeping.{edited_keeps, keeps_lines, same_keeps, stopped_keeps, Keeps}
 use Rattle.ff_device.proofs.Sealing.{sealing_edited, sealing_slot, Sealing}
 
@@ -22,7 +22,13 @@ pub record Turning (old new : Parts) : Type 0 where
 seal_keeps : (result : Work) (old new : Parts) → Turning old new → SealRow result old new → Keeps old new
 seal_keeps Stepped old new t s =
     let sealing : Sealing s.page old new = record {
-      sound = t.sound; cache = t.cache; store = t.store; seals = s.sealed; ends = s.cache; window = s.window; capacity = t.same.capacity;
+      sound = t.sound;
+      cache = t.cache;
+      store = t.store;
+      seals = s.sealed;
+      ends = s.cache;
+      window = s.window;
+      capacity = t.same.capacity;
     } in
     let slot = sealing_slot s.page old new sealing in
     edited_keeps s.page slot (slot_flushed slot) old new (sealing_edited s.page old new sealing) refl

@@ -1,20 +1,18 @@
 -- A step of work leaves fewer steps.
-use Rattle.std.proofs.Common.{◌≡◌, ◌≢◌, ◌<◌, ◌≤◌, inl, inr, ℕ, suc, ◌+◌, ◌-◌, ◌*◌, ◌%◌, ◌&&◌, ◌||◌, ◌⊎◌, Bool, true, false, not, List, [], length, set, refl, sym, ap, ◌∙◌, arith, Option, Some, None, get_or-set_same, get_or-set_other}
-use Rattle.std.specs.Option.{is_none, is_some}
+use Rattle.std.proofs.Common.{◌≡◌, ◌<◌, ◌≤◌, inl, inr, ℕ, suc, ◌+◌, ◌*◌, ◌%◌, ◌||◌, Bool, true, false, not, List, [], length, refl, ap, ◌∙◌, arith, Option, Some, None, get_or-set_same, get_or-set_other}
+use Rattle.std.specs.Option.{is_some}
 use Rattle.std.specs.Prelude.{if◌then◌else◌}
 use Rattle.std.proofs.Math.Nat.{mod-lt}
-use Rattle.std.proofs.lemmas.Bool.{and_left, cases_Bool, cases_eq, cases_lt, eq-eqb, false_from_ne_true}
+use Rattle.std.proofs.lemmas.Bool.{cases_Bool, cases_eq, cases_lt, false_from_ne_true}
 use Rattle.std.proofs.lemmas.List.{get_or_past}
 use Rattle.ff_base.specs.declared.numbers.PageNo.{PageNo}
-use Rattle.ff_cache.specs.Cache.{first_of, is_full_set, set_of, values_of, way_at, CacheView, IsCacheSound}
+use Rattle.ff_cache.specs.Cache.{is_full_set, set_of, values_of, way_at, IsCacheSound}
 use Rattle.ff_cache.specs.Slots.{empty_slot, held, holds, slot_at, slot_flushed, slot_flushing}
 use Rattle.ff_cache.specs.declared.slot.Slot.{Slot}
 use Rattle.ff_lines.specs.declared.post.Post.{Post}
-use Rattle.ff_device.specs.Changes.{Changes}
-use Rattle.ff_device.specs.Chosen.{chosen}
 use Rattle.ff_device.specs.Draining.{SameFrames}
 use Rattle.ff_device.specs.Parts.{is_resident, Parts}
-use Rattle.ff_device.specs.Steps.{chosen_way, flush_steps, is_flushed, may_go, may_go_at, page_waits, soon_clean, steps_of_set, steps_of_slot, steps_of_way, steps_to}
+use Rattle.ff_device.specs.Steps.{chosen_way, flush_steps, may_go, may_go_at, page_waits, soon_clean, steps_of_set, steps_of_slot, steps_of_way, steps_to}
 use Rattle.ff_device.specs.Store.{IsStore, Pending, StoreView}
 use Rattle.ff_device.specs.WorkRows.{HasUnpinned}
 use Rattle.ff_device.proofs.Frames.{chosen_frames, frames_by, full_frames}
@@ -44,7 +42,7 @@ pub steps_dirty : (parts : Parts) (page way : ℕ) → held parts.cache.slots pa
 steps_dirty parts page way absent idle full choice dirty =
     steps_idle parts page absent idle
     ∙ ap (λ (n : ℕ). suc (0 + n)) (steps_full parts page (Some way) full choice
-        ∙ rw (not_clean parts.store.pending (way_at parts.cache page way) idle dirty, idle) refl)
+    ∙ rw (not_clean parts.store.pending (way_at parts.cache page way) idle dirty, idle) refl)
 
 -- a page that is resident
 pub fetched_falls : (old new : Parts) (page : ℕ) → held old.cache.slots page ≡ None → is_resident new page ≡ true
@@ -87,7 +85,7 @@ programmed_falls old new page way flushed bytes absent still idle full choice di
     let posts : new.window.posts ≡ old.window.posts = ap (λ w. w.posts) window in
     let way_is : steps_of_set new page ≡ 0 =
     steps_full new page (Some way) (full_frames old.cache new.cache page frames ∙ full) (chosen_frames old new page frames posts ∙ choice)
-        ∙ rw soon refl in
+    ∙ rw soon refl in
     let after : steps_to new page ≡ suc (1 + 0) =
     steps_waiting new page (record { page = flushed; bytes = bytes }) still pending ∙ ap (λ (n : ℕ). suc (1 + n)) way_is in
     omega arith
@@ -127,7 +125,7 @@ drained_falls old new page sound absent still idle full none free frames posts s
     let still_idle : new.store.pending ≡ None = ap (λ s. s.pending) store ∙ idle in
     let after : steps_to new page ≡ suc (0 + steps_of_slot new.store (way_at new.cache page found.0)) =
     steps_idle new page still still_idle
-        ∙ ap (λ (n : ℕ). suc (0 + n)) (steps_full new page (Some found.0) (full_frames old.cache new.cache page frames ∙ full) found.1) in
+    ∙ ap (λ (n : ℕ). suc (0 + n)) (steps_full new page (Some found.0) (full_frames old.cache new.cache page frames ∙ full) found.1) in
     let most = slot_most new.store (way_at new.cache page found.0) still_idle in
     let left : new.store.left ≡ old.store.left = ap (λ s. s.left) store in
     omega arith
@@ -192,7 +190,7 @@ sealed_falls page wanted old new s store most absent still =
     let way = sealed_way page wanted old new s frames less (chosen_way old wanted) in
     let set : steps_of_set new wanted ≤ steps_of_set old wanted =
     rw (full_frames old.cache new.cache wanted frames, chosen_frames old new wanted frames posts)
-        (either_less (is_full_set old.cache wanted) (steps_of_way new wanted (chosen_way old wanted)) (steps_of_way old wanted (chosen_way old wanted)) way) in
+    (either_less (is_full_set old.cache wanted) (steps_of_way new wanted (chosen_way old wanted)) (steps_of_way old wanted (chosen_way old wanted)) way) in
     let before : steps_to old wanted ≡ suc (1 + steps_of_set old wanted) = steps_waiting old wanted s.seals.flush absent s.seals.waited in
     let after : steps_to new wanted ≡ suc (0 + steps_of_set new wanted) = steps_idle new wanted still s.seals.done in
     omega arith

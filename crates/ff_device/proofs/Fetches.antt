@@ -1,18 +1,16 @@
 -- A slot that was empty, or clean, unpinned and without a waiting post, was filled with a page that was held nowhere.
-use Rattle.std.proofs.Common.{◌≡◌, ◌≢◌, ◌<◌, inl, inr, ℕ, ◌+◌, ◌||◌, ◌&&◌, ◌⊎◌, Bool, true, false, not, List, [], length, set, refl, sym, ap, ◌∙◌, arith, Option, Some, None}
-use Rattle.std.specs.Option.{is_some}
+use Rattle.std.proofs.Common.{◌≡◌, ◌<◌, inl, inr, ℕ, ◌||◌, ◌⊎◌, true, false, not, List, length, refl, sym, ap, ◌∙◌, Option, Some, None}
 use Rattle.std.proofs.lemmas.Bool.{and_parts, cases_Bool, cases_eq, eq-eqb, not-true, eqb-true}
 use Rattle.ff_base.specs.declared.numbers.PageNo.{PageNo}
-use Rattle.ff_cache.specs.Cache.{with_value, CacheView, IsCacheSound, IsInSet}
+use Rattle.ff_cache.specs.Cache.{IsCacheSound, IsInSet}
 use Rattle.ff_cache.specs.Slots.{held, holds, is_page, slot_at, slot_filled}
 use Rattle.ff_cache.specs.declared.slot.Slot.{Slot}
-use Rattle.ff_lines.specs.BlankLine.{line_or_blank}
 use Rattle.ff_lines.specs.Posts.{waits_in}
 use Rattle.ff_lines.specs.declared.post.Post.{Post}
 use Rattle.ff_lines.proofs.PageCounts.{count_below-same}
-use Rattle.ff_device.specs.Parts.{bytes_over, cached, is_dirty, is_pinned, is_resident, is_written, line_below, page_below, IsDeviceSound, IsFlushing, Parts}
+use Rattle.ff_device.specs.Parts.{cached, is_dirty, is_pinned, is_resident, is_written, page_below, IsDeviceSound, Parts}
 use Rattle.ff_device.specs.Steps.{may_go, page_waits}
-use Rattle.ff_device.specs.Store.{is_mapped, page_bytes, Pending, StoreView}
+use Rattle.ff_device.specs.Store.{is_mapped, page_bytes}
 use Rattle.ff_device.specs.WorkRows.{IsFetched}
 use Rattle.ff_device.proofs.Holding.{replaced_at, Replaced}
 
@@ -66,7 +64,7 @@ fetching_below page slot old new f p =
       | inr apart ↦ elim (cases_Bool (holds (gone_of slot old) p)) [
         | inl gone ↦
             rw (r.left p gone, r.was p gone) (stored_same page slot old new f p
-                ∙ sym (f.sound.clean p (gone_of slot old) (r.was p gone) f.clean))
+            ∙ sym (f.sound.clean p (gone_of slot old) (r.was p gone) f.clean))
         | inr kept ↦ rw (r.others p apart kept, f.fetched.pages) refl
       ]
     ]

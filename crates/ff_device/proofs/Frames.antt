@@ -1,6 +1,6 @@
 -- What depends on the slots' pages and pins alone.
-use Rattle.std.proofs.Common.{◌≡◌, ◌≢◌, ◌<◌, inl, inr, ℕ, zero, suc, ◌+◌, ◌*◌, ◌%◌, ◌&&◌, ◌⊎◌, Bool, true, false, not, List, [], length, set, refl, sym, ap, ◌∙◌, arith, Option, Some, None, get_or-set_same, get_or-set_other}
-use Rattle.std.specs.Option.{is_none, is_some}
+use Rattle.std.proofs.Common.{◌≡◌, ◌<◌, inl, inr, ℕ, zero, suc, ◌+◌, ◌*◌, ◌%◌, Bool, true, false, not, List, refl, sym, ap, ◌∙◌, arith, Option, Some, None, get_or-set_same, get_or-set_other}
+use Rattle.std.specs.Option.{is_none}
 use Rattle.std.proofs.lemmas.Bool.{cases_eq}
 use Rattle.std.specs.Prelude.{option_map}
 use Rattle.ff_base.specs.declared.numbers.PageNo.{PageNo}
@@ -8,12 +8,11 @@ use Rattle.ff_cache.specs.Cache.{all_below, first_of, is_full_set, values_of, wa
 use Rattle.ff_cache.specs.Slots.{empty_slot, is_empty, slot_at}
 use Rattle.ff_cache.specs.declared.slot.Slot.{Slot}
 use Rattle.ff_cache.proofs.Full.{all_below_at}
-use Rattle.ff_lines.specs.declared.post.Post.{Post}
 use Rattle.ff_device.specs.Changes.{Changes}
-use Rattle.ff_device.specs.Chosen.{chosen, oldest, Candidate}
+use Rattle.ff_device.specs.Chosen.{chosen, Candidate}
 use Rattle.ff_device.specs.Draining.{SameFrames}
 use Rattle.ff_device.specs.Parts.{Parts}
-use Rattle.ff_device.specs.Steps.{chosen_way, may_go, may_go_at, page_waits}
+use Rattle.ff_device.specs.Steps.{chosen_way, may_go_at}
 use Rattle.ff_device.proofs.Oldest.{oldest_same}
 
 -- a slot was changed, and keeps its page and its pin
@@ -42,8 +41,8 @@ all_below_same f h (suc n) same = let rest = all_below_same f h n same in rw (re
 pub full_frames : (old new : CacheView) (page : ℕ) → SameFrames old new → is_full_set new page ≡ is_full_set old page
 full_frames old new page frames =
     rw (frames.sets, frames.ways) (all_below_same (λ way. not (is_empty (way_at old page way)))
-        (λ way. not (is_empty (slot_at new.slots (page % old.sets * old.ways + way)))) old.ways
-        (λ k. ap (λ (found : Option PageNo). not (is_none found)) (frames.page (page % old.sets * old.ways + k))))
+    (λ way. not (is_empty (slot_at new.slots (page % old.sets * old.ways + way)))) old.ways
+    (λ k. ap (λ (found : Option PageNo). not (is_none found)) (frames.page (page % old.sets * old.ways + k))))
 
 pub may_go_frames : (old new : Parts) (page way : ℕ) → SameFrames old.cache new.cache → new.window.posts ≡ old.window.posts
     → may_go_at new page way ≡ may_go_at old page way
@@ -57,7 +56,7 @@ chosen_frames old new page frames posts =
     let values : values_of new.cache page ≡ values_of old.cache page = rw (frames.values, frames.sets) refl in
     ap (λ (v : List ℕ). chosen (may_go_at new page) v) values
     ∙ ap (λ (c : Option Candidate). option_map (λ d. d.way) c)
-        (oldest_same (may_go_at old page) (may_go_at new page) (values_of old.cache page) (λ way. may_go_frames old new page way frames posts))
+    (oldest_same (may_go_at old page) (may_go_at new page) (values_of old.cache page) (λ way. may_go_frames old new page way frames posts))
 
 empty_not : (b : Bool) → not b ≡ true → b ≡ false
 empty_not true is = absurd (cc)
@@ -77,4 +76,4 @@ pub full_first : (cache : CacheView) (page first : ℕ) → IsCacheSound cache �
 full_first cache page first sound full is none =
     let place : first_of cache page + 0 ≡ first = omega arith in
     page_some (slot_at cache.slots first).page
-        (ap (λ (k : ℕ). is_empty (slot_at cache.slots k)) (sym place) ∙ full_way cache page 0 full sound.sizes.some_ways) none
+    (ap (λ (k : ℕ). is_empty (slot_at cache.slots k)) (sym place) ∙ full_way cache page 0 full sound.sizes.some_ways) none

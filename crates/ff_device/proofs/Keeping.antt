@@ -1,6 +1,5 @@
 -- What a step of work keeps of the lines.
-use Rattle.std.proofs.Common.{◌≡◌, ◌≢◌, ◌<◌, ◌≤◌, inl, inr, ℕ, ◌+◌, ◌⊎◌, Bool, true, false, List, [], length, refl, sym, ap, ◌∙◌, arith, Option, Some, None}
-use Rattle.ff_base.specs.declared.numbers.PageNo.{PageNo}
+use Rattle.std.proofs.Common.{◌≡◌, ◌≤◌, inl, inr, ℕ, ◌+◌, ◌⊎◌, true, List, length, refl, ap, ◌∙◌, arith}
 use Rattle.ff_cache.specs.declared.slot.Slot.{Slot}
 use Rattle.ff_lines.specs.BlankLine.{line_or_blank}
 use Rattle.ff_lines.specs.DeviceState.{DeviceState, IsDrained}
@@ -9,7 +8,7 @@ use Rattle.ff_lines.specs.Works.{KeepsLines}
 use Rattle.ff_lines.specs.declared.device.Work.{Work}
 use Rattle.ff_lines.specs.declared.device.Work.TheVariants.{Ready, Stepped, Pinned, Failed, Off}
 use Rattle.ff_device.specs.DeviceFields.{lines_of}
-use Rattle.ff_device.specs.Parts.{is_pinned, is_resident, is_written, line_below, page_below, Parts}
+use Rattle.ff_device.specs.Parts.{is_pinned, is_resident, is_written, line_below, Parts}
 use Rattle.ff_device.specs.Store.{SameStore, StoreView}
 use Rattle.ff_device.specs.WorkRows.{IsStopped, Powered}
 use Rattle.ff_device.proofs.Edits.{edited_below, edited_pinned, edited_resident, edited_written, Edited}
@@ -22,7 +21,7 @@ pub record Keeps (old new : Parts) : Type 0 where
   pub pinned : (p : ℕ) → is_pinned new p ≡ is_pinned old p
   pub written : (p : ℕ) → is_written new p ≡ is_written old p
   pub stay : (p : ℕ) → (is_pinned old p ≡ true) ⊎ (waits_in old.window.posts p ≡ true)
-    → is_resident old p ≡ true → is_resident new p ≡ true
+      → is_resident old p ≡ true → is_resident new p ≡ true
   pub pages : length new.store.pages ≡ length old.store.pages
 
 pub edited_keeps : (page : ℕ) (slot after : Slot) (old new : Parts) → Edited page slot after old new → after.pinned ≡ slot.pinned → Keeps old new

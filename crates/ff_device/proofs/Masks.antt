@@ -1,5 +1,5 @@
 -- A mask with one more bit.
-use Rattle.std.proofs.Common.{◌≡◌, ◌<◌, inl, inr, ℕ, ◌*◌, ◌%◌, ◌^◌, ◌==◌, ◌⊎◌, Bool, true, false, bit_or, w32, refl, ap, ◌∙◌}
+use Rattle.std.proofs.Common.{◌≡◌, ◌<◌, inl, inr, ℕ, ◌*◌, ◌%◌, ◌^◌, ◌==◌, true, bit_or, w32, refl}
 use Rattle.std.specs.Int.{bit_at}
 use Rattle.std.specs.Prelude.{if◌then◌else◌}
 use Rattle.std.proofs.lemmas.Bool.{cases_eq, eq-eqb, ne_eqb}

@@ -1,7 +1,7 @@
 -- The oldest of the ways that may give way.
-use Rattle.std.proofs.Common.{◌≡◌, ◌≢◌, ◌<◌, ◌≤◌, inl, inr, ℕ, zero, suc, ◌+◌, ◌⊎◌, Bool, true, false, List, [], ◌∷◌, length, get_or, refl, sym, ap, ◌∙◌, arith, Option, Some, None}
+use Rattle.std.proofs.Common.{◌≡◌, ◌<◌, ◌≤◌, inl, inr, ℕ, zero, suc, ◌+◌, Bool, true, false, List, [], ◌∷◌, length, get_or, refl, sym, ap, ◌∙◌, arith, Option, Some, None}
 use Rattle.std.specs.Option.{is_some}
-use Rattle.std.specs.Prelude.{if◌then◌else◌, nat_lt, option_map, slice_index}
+use Rattle.std.specs.Prelude.{nat_lt, option_map}
 use Rattle.std.proofs.lemmas.Bool.{cases_Bool, lt-ltb, le-ltb}
 use Rattle.ff_rrip.specs.Ways.{is_allowed, raised, raised_from, raised_value, IsAllowedWay, IsVictimWay, NoneAllowed}
 use Rattle.ff_device.specs.Chosen.{chosen, greater, next_way, oldest, Candidate}
@@ -63,12 +63,12 @@ pub oldest_found : (may : ℕ → Bool) (values : List ℕ) (k : ℕ) → k < le
 oldest_found may [] k within passes greatest least = absurd (omega arith)
 oldest_found may (value ∷ later) zero within passes greatest least =
     let first = greater_first value (oldest (λ way. may (suc way)) later) (λ d is.
-        let a = oldest_among (λ way. may (suc way)) later d is in
-        rw a.value (greatest (suc d.way) (omega (arith, a.within)) a.passes)) in
+    let a = oldest_among (λ way. may (suc way)) later d is in
+    rw a.value (greatest (suc d.way) (omega (arith, a.within)) a.passes)) in
     rw passes (ap (λ (c : Candidate). Some c) first)
 oldest_found may (value ∷ later) (suc k) within passes greatest least =
     let rest = oldest_found (λ way. may (suc way)) later k (omega arith) passes
-        (λ j below goes. greatest (suc j) (omega arith) goes) (λ j below goes. least (suc j) (omega arith) goes) in
+    (λ j below goes. greatest (suc j) (omega arith) goes) (λ j below goes. least (suc j) (omega arith) goes) in
     elim (cases_Bool (may 0)) [
       | inl first ↦
           let less : nat_lt value (get_or later k 0) ≡ true = lt-ltb value (get_or later k 0) (least 0 (omega arith) first) in
@@ -136,14 +136,14 @@ victim_new allowed may old new way told v =
     let size : length new ≡ length old = ap length v.raises.1 ∙ length-raised_from 0 allowed v.raises.0 old in
     let inside : way < length new = omega (arith, v.among.in_range) in
     let found = oldest_found may new way inside (sym (told way v.among.in_range) ∙ v.among.bit)
-        (λ j below goes.
-            let bound = v.bounded j (record { in_range = omega arith; bit = told j (omega arith) ∙ goes }) in
-            omega (arith, v.distant, bound))
-        (λ j below goes.
-            let one : IsAllowedWay (length old) allowed j = record { in_range = omega (arith, v.among.in_range); bit = told j (omega (arith, v.among.in_range)) ∙ goes } in
-            let bound = v.bounded j one in
-            let apart = v.least j below one in
-            omega (arith, v.distant, bound, apart)) in
+    (λ j below goes.
+    let bound = v.bounded j (record { in_range = omega arith; bit = told j (omega arith) ∙ goes }) in
+    omega (arith, v.distant, bound))
+    (λ j below goes.
+    let one : IsAllowedWay (length old) allowed j = record { in_range = omega (arith, v.among.in_range); bit = told j (omega (arith, v.among.in_range)) ∙ goes } in
+    let bound = v.bounded j one in
+    let apart = v.least j below one in
+    omega (arith, v.distant, bound, apart)) in
     ap (λ (c : Option Candidate). option_map (λ d. d.way) c) found
 
 -- and with the values before
@@ -152,20 +152,20 @@ pub victim_old : (allowed : ℕ) (may : ℕ → Bool) (old new : List ℕ) (way 
 victim_old allowed may old new way told v =
     let by : ℕ = v.raises.0 in
     let raise = λ (j : ℕ) (below : j < length old) (bit : is_allowed allowed j ≡ true).
-        ap (λ (values : List ℕ). get_or values j 0) v.raises.1 ∙ raised_at allowed by old j below bit in
+    ap (λ (values : List ℕ). get_or values j 0) v.raises.1 ∙ raised_at allowed by old j below bit in
     let top = raise way v.among.in_range v.among.bit in
     let found = oldest_found may old way v.among.in_range (sym (told way v.among.in_range) ∙ v.among.bit)
-        (λ j below goes.
-            let bit : is_allowed allowed j ≡ true = told j below ∙ goes in
-            let bound = v.bounded j (record { in_range = below; bit = bit }) in
-            omega (arith, v.distant, bound, raise j below bit, top))
-        (λ j below goes.
-            let inside : j < length old = omega (arith, v.among.in_range) in
-            let bit : is_allowed allowed j ≡ true = told j inside ∙ goes in
-            let one : IsAllowedWay (length old) allowed j = record { in_range = inside; bit = bit } in
-            let bound = v.bounded j one in
-            let apart = v.least j below one in
-            omega (arith, v.distant, bound, apart, raise j inside bit, top)) in
+    (λ j below goes.
+    let bit : is_allowed allowed j ≡ true = told j below ∙ goes in
+    let bound = v.bounded j (record { in_range = below; bit = bit }) in
+    omega (arith, v.distant, bound, raise j below bit, top))
+    (λ j below goes.
+    let inside : j < length old = omega (arith, v.among.in_range) in
+    let bit : is_allowed allowed j ≡ true = told j inside ∙ goes in
+    let one : IsAllowedWay (length old) allowed j = record { in_range = inside; bit = bit } in
+    let bound = v.bounded j one in
+    let apart = v.least j below one in
+    omega (arith, v.distant, bound, apart, raise j inside bit, top)) in
     ap (λ (c : Option Candidate). option_map (λ d. d.way) c) found
 
 allowed_no : (bit may : Bool) → bit ≡ may → (bit ≡ true → ⊥) → may ≡ false
@@ -176,4 +176,4 @@ pub victim_none : (allowed : ℕ) (may : ℕ → Bool) (values : List ℕ) → (
     → NoneAllowed values allowed → chosen may values ≡ None
 victim_none allowed may values told none =
     ap (λ (c : Option Candidate). option_map (λ d. d.way) c)
-        (oldest_none may values (λ k below. allowed_no (is_allowed allowed k) (may k) (told k below) (λ bit. none k (record { in_range = below; bit = bit }))))
+    (oldest_none may values (λ k below. allowed_no (is_allowed allowed k) (may k) (told k below) (λ bit. none k (record { in_range = below; bit = bit }))))

@@ -1,8 +1,7 @@
 -- The bytes of a dirty slot were programmed.
-use Rattle.std.proofs.Common.{◌≡◌, ◌≢◌, ◌<◌, ◌≤◌, inl, inr, ℕ, ◌==◌, ◌||◌, ◌⊎◌, Bool, true, false, List, length, refl, sym, ap, ◌∙◌, arith, Option, Some, None}
-use Rattle.std.specs.Option.{is_some}
+use Rattle.std.proofs.Common.{◌≡◌, ◌<◌, ◌≤◌, inl, inr, ℕ, ◌==◌, ◌||◌, Bool, true, false, length, refl, sym, ap, ◌∙◌, arith, Option, Some, None}
 use Rattle.std.specs.Prelude.{IsSome}
-use Rattle.std.proofs.lemmas.Bool.{eq-eqb, eqb-true, or_cases, or_left, or_right}
+use Rattle.std.proofs.lemmas.Bool.{eq-eqb, eqb-true, or_cases, or_left}
 use Rattle.ff_base.specs.declared.numbers.PageNo.{PageNo}
 use Rattle.ff_cache.specs.Cache.{IsCacheSound}
 use Rattle.ff_cache.specs.Slots.{held, holds, slot_at, slot_flushing}
@@ -12,8 +11,8 @@ use Rattle.ff_lines.specs.PageSets.{count_below, with_page}
 use Rattle.ff_lines.specs.Posts.{waits_in}
 use Rattle.ff_lines.proofs.PageCounts.{count_below-part}
 use Rattle.ff_device.specs.Changes.{Changes}
-use Rattle.ff_device.specs.Parts.{cached, is_dirty, is_resident, is_written, IsDeviceSound, IsFlushing, Parts}
-use Rattle.ff_device.specs.Store.{is_mapped, page_bytes, Pending, StoreView}
+use Rattle.ff_device.specs.Parts.{cached, is_dirty, is_written, IsDeviceSound, Parts}
+use Rattle.ff_device.specs.Store.{is_mapped, Pending}
 use Rattle.ff_device.proofs.Edits.{edited_sound, Edited}
 use Rattle.ff_device.proofs.Holding.{changed_by}
 
@@ -53,12 +52,12 @@ pub dirty_room : (slot : ℕ) (page : PageNo) (old : Parts) → IsDirtySlot slot
     → count_below (with_page page.0 (is_mapped old.store)) (length old.store.pages) ≤ old.store.capacity
 dirty_room slot page old d =
     let part = count_below-part (with_page page.0 (is_mapped old.store)) (is_written old) (length old.store.pages) (λ q is.
-        elim (or_cases (q == page.0) (is_mapped old.store q) is) [
-          | inl same ↦
-              rw (eqb-true q page.0 same, dirty_cached slot page old d, d.dirty)
-              (dirty_is_written (is_mapped old.store page.0) (waits_in old.window.posts page.0))
-          | inr mapped ↦ written_mapped (is_mapped old.store q) (is_dirty old q || waits_in old.window.posts q) mapped
-        ]) in
+    elim (or_cases (q == page.0) (is_mapped old.store q) is) [
+      | inl same ↦
+          rw (eqb-true q page.0 same, dirty_cached slot page old d, d.dirty)
+          (dirty_is_written (is_mapped old.store page.0) (waits_in old.window.posts page.0))
+      | inr mapped ↦ written_mapped (is_mapped old.store q) (is_dirty old q || waits_in old.window.posts q) mapped
+    ]) in
     let room = d.sound.room in
     omega arith
 
@@ -96,9 +95,9 @@ programming_sound slot page old new p =
     let e = programming_edited slot page old new p in
     let found : Slot = slot_at old.cache.slots slot in
     edited_sound page.0 found (slot_flushing found) old new e p.slot_is.sound
-        (λ clean. let both : true ≡ false = sym p.slot_is.dirty ∙ clean in absurd (cc))
-        (λ flush is.
-            let flushing : Pending = record { page = page.0; bytes = found.bytes } in
-            let both : Some flushing ≡ Some flush = sym p.pending ∙ is in
-            let one : flushing ≡ flush = cc in
-            rw (sym one) (record { slot = slot_flushing found; held = e.changed.here; dirty = p.slot_is.dirty; same = λ calm. refl }))
+    (λ clean. let both : true ≡ false = sym p.slot_is.dirty ∙ clean in absurd (cc))
+    (λ flush is.
+    let flushing : Pending = record { page = page.0; bytes = found.bytes } in
+    let both : Some flushing ≡ Some flush = sym p.pending ∙ is in
+    let one : flushing ≡ flush = cc in
+    rw (sym one) (record { slot = slot_flushing found; held = e.changed.here; dirty = p.slot_is.dirty; same = λ calm. refl }))

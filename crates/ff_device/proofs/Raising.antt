@@ -1,18 +1,17 @@
 -- A choice of the way that gives way raised values.
-use Rattle.std.proofs.Common.{◌≡◌, ◌≢◌, ◌<◌, ◌≤◌, inl, inr, ℕ, suc, ◌+◌, ◌*◌, ◌%◌, ◌⊎◌, Bool, true, false, List, [], length, set, refl, sym, ap, ◌∙◌, arith, Option, Some, None, length-set, get_or-set_same, get_or-set_other}
+use Rattle.std.proofs.Common.{◌≡◌, ◌<◌, inl, inr, ℕ, suc, ◌+◌, ◌%◌, true, List, [], length, sym, ap, ◌∙◌, arith, Some, None, length-set, get_or-set_same, get_or-set_other}
 use Rattle.std.proofs.Math.Nat.{mod-lt}
 use Rattle.std.proofs.lemmas.Bool.{cases_eq}
-use Rattle.ff_cache.specs.Cache.{first_of, is_full_set, set_of, values_at, values_of, way_at, AreValues, CacheView, IsCacheSound, IsChosen, IsInSet}
+use Rattle.ff_cache.specs.Cache.{is_full_set, values_of, way_at, AreValues, IsCacheSound, IsInSet}
 use Rattle.ff_cache.specs.Slots.{held, slot_at}
 use Rattle.ff_cache.proofs.Sets.{set_fits}
-use Rattle.ff_rrip.specs.Ways.{raised}
-use Rattle.ff_device.specs.Parts.{is_resident, IsDeviceSound, Parts}
-use Rattle.ff_device.specs.Steps.{chosen_way, may_go, may_go_at, steps_of_way, steps_to}
+use Rattle.ff_device.specs.Parts.{IsDeviceSound, Parts}
+use Rattle.ff_device.specs.Steps.{chosen_way, may_go, steps_of_way, steps_to}
 use Rattle.ff_device.specs.WorkRows.{IsRaised}
 use Rattle.ff_device.proofs.Choices.{chosen_after, chosen_before, values_size}
 use Rattle.ff_device.proofs.Falls.{steps_full, steps_idle}
 use Rattle.ff_device.proofs.Oldest.{length-raised_from}
-use Rattle.ff_device.proofs.Touching.{sound_values, with_values}
+use Rattle.ff_device.proofs.Touching.{with_values}
 
 pub record Raising (page slot : ℕ) (old mid : Parts) : Type 0 where
   pub sound : IsDeviceSound old

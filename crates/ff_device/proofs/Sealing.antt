@@ -1,15 +1,14 @@
 -- The flush that waited was sealed.
-use Rattle.std.proofs.Common.{◌≡◌, ◌≢◌, ◌<◌, inl, inr, ℕ, ◌||◌, ◌⊎◌, Bool, true, false, List, length, set, refl, sym, ap, ◌∙◌, Option, Some, None, length-set, get_or-set_same, get_or-set_other}
+use Rattle.std.proofs.Common.{◌≡◌, ◌<◌, ℕ, ◌||◌, Bool, true, false, length, refl, sym, ap, ◌∙◌, Option, Some, None, length-set, get_or-set_same, get_or-set_other}
 use Rattle.std.specs.Option.{is_some}
 use Rattle.std.specs.Prelude.{IsSome}
-use Rattle.std.proofs.lemmas.Bool.{or_left}
 use Rattle.ff_cache.specs.Cache.{IsCacheSound}
 use Rattle.ff_cache.specs.Slots.{held, slot_at, slot_flushed}
 use Rattle.ff_cache.specs.declared.slot.Slot.{Slot}
 use Rattle.ff_lines.specs.Posts.{waits_in}
 use Rattle.ff_device.specs.Changes.{Changes}
-use Rattle.ff_device.specs.Parts.{cached, is_dirty, is_written, IsDeviceSound, IsFlushing, Parts}
-use Rattle.ff_device.specs.Store.{mapped, page_bytes, IsStore, Pending, SealsPage, StoreView}
+use Rattle.ff_device.specs.Parts.{cached, is_written, IsDeviceSound, Parts}
+use Rattle.ff_device.specs.Store.{mapped, IsStore, SealsPage, StoreView}
 use Rattle.ff_device.proofs.Edits.{edited_sound, Edited}
 use Rattle.ff_device.proofs.Holding.{changed_by}
 
@@ -83,5 +82,5 @@ pub sealing_sound : (page : ℕ) (old new : Parts) → Sealing page old new → 
 sealing_sound page old new s =
     let slot = sealing_slot page old new s in
     edited_sound page slot (slot_flushed slot) old new (sealing_edited page old new s) s.sound
-        (λ calm. rw (sealing_mapped page old new s) ((sealing_flush page old new s).1 calm))
-        (λ flush is. let both : None ≡ Some flush = sym s.seals.done ∙ is in absurd (cc))
+    (λ calm. rw (sealing_mapped page old new s) ((sealing_flush page old new s).1 calm))
+    (λ flush is. let both : None ≡ Some flush = sym s.seals.done ∙ is in absurd (cc))

@@ -1,6 +1,6 @@
 -- A device whose store stopped, and the pages as they were.
-use Rattle.std.proofs.Common.{◌≡◌, inl, inr, ℕ, ◌⊎◌, Bool, true, length, refl, sym, ap, ◌∙◌, Option, Some, None}
-use Rattle.ff_device.specs.Parts.{is_written, IsDeviceSound, IsFlushing, Parts}
+use Rattle.std.proofs.Common.{◌≡◌, inl, inr, ◌⊎◌, sym, ◌∙◌, Option, Some, None}
+use Rattle.ff_device.specs.Parts.{IsDeviceSound, Parts}
 use Rattle.ff_device.specs.Store.{Pending, StoreView}
 
 pending_before : (old new : Option Pending) (flush : Pending) → (new ≡ None) ⊎ (new ≡ old) → new ≡ Some flush → old ≡ Some flush

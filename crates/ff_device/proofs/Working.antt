@@ -1,33 +1,32 @@
 -- Each row of a step of work is what a device of lines promises.
-use Rattle.std.proofs.Common.{◌≡◌, ◌≢◌, ◌<◌, ◌≤◌, inl, inr, ℕ, suc, ◌+◌, ◌*◌, ◌%◌, ◌⊎◌, Bool, true, false, List, [], length, set, refl, sym, ap, ◌∙◌, arith, Option, Some, None, get_or-set_same}
+use Rattle.std.proofs.Common.{◌≡◌, ◌<◌, inl, inr, ℕ, ◌+◌, ◌%◌, true, false, List, length, refl, sym, ap, ◌∙◌, arith, Option, Some, None, get_or-set_same}
 use Rattle.std.specs.Option.{is_none, is_some}
 use Rattle.std.specs.Prelude.{option_map}
 use Rattle.std.proofs.Math.Nat.{mod-lt}
 use Rattle.std.proofs.lemmas.Bool.{cases_Bool, eq-eqb}
 use Rattle.ff_base.specs.declared.numbers.PageNo.{PageNo}
 use Rattle.ff_cache.specs.Cache.{first_of, is_full_set, way_at, CacheView, IsCacheSound, IsEmptyWay, IsInSet}
-use Rattle.ff_cache.specs.Slots.{empty_slot, held, holds, is_empty, slot_at, slot_flushed, slot_flushing}
+use Rattle.ff_cache.specs.Slots.{empty_slot, held, holds, slot_at, slot_flushed, slot_flushing}
 use Rattle.ff_cache.specs.declared.slot.Slot.{Slot}
 use Rattle.ff_cache.proofs.Sets.{set_fits, slot_of_page}
-use Rattle.ff_lines.specs.DeviceState.{IsDrained}
-use Rattle.ff_lines.specs.Works.{IsOff, HasFailed, KeepsLines, WentWell, Works}
+use Rattle.ff_lines.specs.Works.{KeepsLines, Works}
 use Rattle.ff_lines.specs.declared.device.Work.{Work}
 use Rattle.ff_lines.specs.declared.device.Work.TheVariants.{Ready, Stepped, Pinned, Failed, Off}
 use Rattle.ff_lines.specs.declared.post.Post.{Post}
 use Rattle.ff_device.specs.DeviceFields.{lines_of}
 use Rattle.ff_device.specs.Draining.{SameFrames}
-use Rattle.ff_device.specs.Parts.{cached, is_pinned, is_resident, IsDeviceSound, Parts}
+use Rattle.ff_device.specs.Parts.{is_resident, IsDeviceSound, Parts}
 use Rattle.ff_device.specs.Steps.{chosen_way, may_go, page_waits, soon_clean, steps_to}
-use Rattle.ff_device.specs.Store.{DidFail, IsStore, Pending, SameStore, StoreView, WentOff, WentOn}
-use Rattle.ff_device.specs.WorkRows.{FetchRow, FlushRow, HasUnpinned, IsCollected, IsFetched, IsPinnedSet, IsProgrammed, IsRaised, IsSealed, IsStep, IsStopped, NoWayRow, Powered, SealRow}
+use Rattle.ff_device.specs.Store.{IsStore, Pending, SameStore}
+use Rattle.ff_device.specs.WorkRows.{FetchRow, FlushRow, IsFetched, IsProgrammed, IsRaised, IsSealed, IsStep, NoWayRow, Powered, SealRow}
 use Rattle.ff_device.specs.WorkRows.{seals, fills, no_way, replaces, flushes}
 use Rattle.ff_device.proofs.Edits.{edited_resident}
 use Rattle.ff_device.proofs.Falls.{collected_falls, drained_falls, fetched_falls, flushing_soon, programmed_falls, sealed_falls}
 use Rattle.ff_device.proofs.Fetches.{fetching_resident, Fetching}
-use Rattle.ff_device.proofs.Frames.{frames_by, full_way}
+use Rattle.ff_device.proofs.Frames.{frames_by}
 use Rattle.ff_device.proofs.Keeping.{drained_keeps, edited_keeps, fetching_keeps, keeps_lines, raised_keeps, same_keeps, stopped_keeps, Keeps}
-use Rattle.ff_device.proofs.Programming.{dirty_cached, programming_edited, IsDirtySlot, Programming}
-use Rattle.ff_device.proofs.Raising.{raising_before, raising_cache, raising_after, raising_goes, raising_place, raising_steps, raising_way, raising_within, Raising}
+use Rattle.ff_device.proofs.Programming.{programming_edited, Programming}
+use Rattle.ff_device.proofs.Raising.{raising_cache, raising_after, raising_goes, raising_place, raising_steps, Raising}
 use Rattle.ff_device.proofs.Sealing.{sealing_edited, sealing_slot, Sealing}
 use Rattle.ff_device.proofs.Touching.{sound_values, with_values}
 
@@ -68,7 +67,13 @@ off_row page old new keeps = record { keeps = keeps; falls = λ e. absurd (cc); 
 
 sealing_of : (page : ℕ) (old new : Parts) → Working page old new → (s : IsSealed old new) → Sealing s.page old new
 sealing_of page old new w s = record {
-  sound = w.sound; cache = w.cache; store = w.store; seals = s.sealed; ends = s.cache; window = s.window; capacity = w.same.capacity;
+  sound = w.sound;
+  cache = w.cache;
+  store = w.store;
+  seals = s.sealed;
+  ends = s.cache;
+  window = s.window;
+  capacity = w.same.capacity;
 }
 
 pub seal_row : (page : ℕ) (result : Work) (old new : Parts) → Working page old new → SealRow result old new → Row page result old new
@@ -79,7 +84,7 @@ seal_row page Stepped old new w s =
     let still : held new.cache.slots page ≡ None =
     none_of (held new.cache.slots page) (edited_resident s.page slot (slot_flushed slot) old new edited page ∙ absent_no old page w.absent) in
     row_of page old new (edited_keeps s.page slot (slot_flushed slot) old new edited refl)
-        (sealed_falls s.page page old new sealing w.after w.same.most_left w.absent still)
+    (sealed_falls s.page page old new sealing w.after w.same.most_left w.absent still)
 seal_row page Failed old new w s = failed_row page old new (stopped_keeps old new s.0)
 seal_row page Off old new w s = off_row page old new (stopped_keeps old new s.0)
 seal_row page Ready old new w s = absurd s
@@ -95,8 +100,16 @@ pub record IsPlace (page slot : ℕ) (old : Parts) : Type 0 where
 fetching_of : (page slot : ℕ) (old new : Parts) → Working page old new → IsPlace page slot old → IsFetched page slot old new
     → Fetching page slot old new
 fetching_of page slot old new w p f = record {
-  sound = w.sound; cache = w.cache; in_range = w.in_range; absent = w.absent; place = p.place; clean = p.clean; goes = p.goes;
-  idle = p.idle; fetched = f; capacity = w.same.capacity;
+  sound = w.sound;
+  cache = w.cache;
+  in_range = w.in_range;
+  absent = w.absent;
+  place = p.place;
+  clean = p.clean;
+  goes = p.goes;
+  idle = p.idle;
+  fetched = f;
+  capacity = w.same.capacity;
 }
 
 pub fetch_row : (page slot : ℕ) (result : Work) (old new : Parts) → Working page old new → IsPlace page slot old
@@ -104,7 +117,7 @@ pub fetch_row : (page slot : ℕ) (result : Work) (old new : Parts) → Working 
 fetch_row page slot Stepped old new w p f =
     let fetching = fetching_of page slot old new w p f in
     row_of page old new (fetching_keeps page slot old new fetching)
-        (fetched_falls old new page w.absent (fetching_resident page slot old new fetching))
+    (fetched_falls old new page w.absent (fetching_resident page slot old new fetching))
 fetch_row page slot Failed old new w p f = failed_row page old new (stopped_keeps old new f.0)
 fetch_row page slot Off old new w p f = off_row page old new (stopped_keeps old new f.0)
 fetch_row page slot Ready old new w p f = absurd f
@@ -123,7 +136,11 @@ programming_of : (page slot way : ℕ) (old new : Parts) → Working page old ne
     → (p : IsProgrammed slot old new) → Programming slot p.page old new
 programming_of page slot way old new w v p = record {
   slot_is = record { sound = w.sound; cache = w.cache; within = v.within; is = p.held; dirty = v.dirty };
-  begins = p.cache; window = p.window; pages = p.pages; capacity = w.same.capacity; pending = p.pending;
+  begins = p.cache;
+  window = p.window;
+  pages = p.pages;
+  capacity = w.same.capacity;
+  pending = p.pending;
 }
 
 -- the slot is clean once the flush is sealed
@@ -148,17 +165,17 @@ programmed_row page slot way old new w v p =
     let frames : SameFrames old.cache new.cache = frames_by p.page.0 slot_flushing old.cache new.cache p.cache (λ s. refl) (λ s. refl) in
     let still : held new.cache.slots page ≡ None =
     none_of (held new.cache.slots page)
-        (edited_resident p.page.0 found (slot_flushing found) old new edited page ∙ absent_no old page w.absent) in
+    (edited_resident p.page.0 found (slot_flushing found) old new edited page ∙ absent_no old page w.absent) in
     row_of page old new (edited_keeps p.page.0 found (slot_flushing found) old new edited refl)
-        (programmed_falls old new page way p.page.0 found.bytes w.absent still v.idle v.full v.chosen (rw (sym v.place) v.dirty) frames p.window p.pending
-            (programmed_soon page slot way old new w v p))
+    (programmed_falls old new page way p.page.0 found.bytes w.absent still v.idle v.full v.chosen (rw (sym v.place) v.dirty) frames p.window p.pending
+    (programmed_soon page slot way old new w v p))
 
 pub flush_row : (page slot way : ℕ) (result : Work) (old new : Parts) → Working page old new → IsVictimSlot page slot way old
     → FlushRow slot result old new → Row page result old new
 flush_row page slot way Stepped old new w v (inl p) = programmed_row page slot way old new w v p
 flush_row page slot way Stepped old new w v (inr c) =
     row_of page old new (stopped_keeps old new c.same)
-        (collected_falls old new page way w.absent v.idle v.full v.chosen (rw (sym v.place) v.dirty) c.same.cache c.same.window c.pending c.fewer)
+    (collected_falls old new page way w.absent v.idle v.full v.chosen (rw (sym v.place) v.dirty) c.same.cache c.same.window c.pending c.fewer)
 flush_row page slot way Failed old new w v f = failed_row page old new (stopped_keeps old new f.0)
 flush_row page slot way Off old new w v f = off_row page old new (stopped_keeps old new f.0)
 flush_row page slot way Ready old new w v f = absurd f
@@ -184,8 +201,14 @@ raised_working page slot old mid new w r =
     let values : List (List ℕ) = mid.cache.values in
     let cache : IsCacheSound (record old.cache { values = values }) = raising_cache page slot old mid r in
     let known : Working page (with_values values old) new = record {
-      sound = sound_values old values w.sound; cache = cache; store = w.store; in_range = w.in_range; absent = w.absent; on = w.on;
-      after = w.after; same = w.same;
+      sound = sound_values old values w.sound;
+      cache = cache;
+      store = w.store;
+      in_range = w.in_range;
+      absent = w.absent;
+      on = w.on;
+      after = w.after;
+      same = w.same;
     } in
     rw r.raised.is known
 
@@ -194,7 +217,10 @@ raised_place : (page slot : ℕ) (old mid : Parts) → Raising page slot old mid
 raised_place page slot old mid r clean idle =
     let place = raising_place page slot old mid r in
     let known : IsPlace page slot (with_values mid.cache.values old) = record {
-      place = record { way = place.way; within = place.within }; clean = clean; goes = raising_goes page slot old mid r; idle = idle;
+      place = record { way = place.way; within = place.within };
+      clean = clean;
+      goes = raising_goes page slot old mid r;
+      idle = idle;
     } in
     rw r.raised.is known
 
@@ -202,8 +228,12 @@ raised_victim : (page slot : ℕ) (old mid : Parts) → (r : Raising page slot o
     → old.store.pending ≡ None → is_full_set old.cache page ≡ true → IsVictimSlot page slot r.raised.chosen.way mid
 raised_victim page slot old mid r dirty idle full =
     let known : IsVictimSlot page slot r.raised.chosen.way (with_values mid.cache.values old) = record {
-      within = (raising_place page slot old mid r).within; dirty = dirty; place = r.raised.chosen.place;
-      chosen = raising_after page slot old mid r; full = full; idle = idle;
+      within = (raising_place page slot old mid r).within;
+      dirty = dirty;
+      place = r.raised.chosen.place;
+      chosen = raising_after page slot old mid r;
+      full = full;
+      idle = idle;
     } in
     rw r.raised.is known
 
@@ -255,14 +285,18 @@ no_way_works : (page : ℕ) (result : Work) (old new : Parts) → Working page o
     → Powered result old.store new.store → Works page result (lines_of old) (lines_of new)
 no_way_works page Stepped old new w n idle full none powers =
     let still : held new.cache.slots page ≡ None =
-    none_of (held new.cache.slots page) (n.1.residence.resident page ∙ absent_no old page w.absent) in
-    (absent_no old page w.absent,
-     drained_falls old new page w.cache w.absent still idle full none n.0 n.2 n.1.lines.posts n.3,
-     record { was = w.on; on = powers.on ∙ w.on; faults = powers.faults })
+    none_of (held new.cache.slots page) (n.1.residence.resident page ∙ absent_no old page w.absent) in (
+      absent_no old page w.absent,
+      drained_falls old new page w.cache w.absent still idle full none n.0 n.2 n.1.lines.posts n.3,
+      record { was = w.on; on = powers.on ∙ w.on; faults = powers.faults },
+    )
 no_way_works page (Pinned named) old new w n idle full none powers =
-    let there = first_holds old.cache page named w.cache n.0.least in
-    (absent_no old page w.absent, rw there refl, rw there (n.0.pinned 0 w.cache.sizes.some_ways),
-     record { was = w.on; on = powers.on ∙ w.on; faults = powers.faults })
+    let there = first_holds old.cache page named w.cache n.0.least in (
+      absent_no old page w.absent,
+      rw there refl,
+      rw there (n.0.pinned 0 w.cache.sizes.some_ways),
+      record { was = w.on; on = powers.on ∙ w.on; faults = powers.faults },
+    )
 no_way_works page Ready old new w n idle full none powers = absurd n
 no_way_works page Failed old new w n idle full none powers = absurd n
 no_way_works page Off old new w n idle full none powers = absurd n
@@ -293,7 +327,7 @@ step_promised page result old new w (replaces idle full slot mid raised clean ro
 step_promised page result old new w (flushes idle full slot mid raised dirty row) powers =
     let r : Raising page slot old mid = record { sound = w.sound; cache = w.cache; raised = raised } in
     let there = flush_row page slot r.raised.chosen.way result mid new (raised_working page slot old mid new w r)
-        (raised_victim page slot old mid r dirty idle full) row in
+    (raised_victim page slot old mid r dirty idle full) row in
     promised_row page result old new w (raised_row page slot result old mid new r w.absent idle full there) powers
 
 -- the first row: a flush waits, a way is empty, none may give way, or one was chosen

@@ -84,7 +84,8 @@ pub record SameStore (old new : StoreView) : Type 0 where
 
 -- a step of the flush of a page
 abbrev pub Flushes : ℕ → List ℕ → Result FlushStep FlashStop → StoreView → StoreView → Type 0
-Flushes page bytes (Ok Programmed) old new = new.pending ≡ Some (record { page = page; bytes = bytes })
+Flushes page bytes (Ok Programmed) old new =
+    new.pending ≡ Some (record { page = page; bytes = bytes })
 Flushes page bytes (Ok Collected) old new = (new.pending ≡ None) × (new.left < old.left)
 Flushes page bytes (Ok (Sealed other)) old new = ⊥
 Flushes page bytes (Err stop) old new = new.pending ≡ None

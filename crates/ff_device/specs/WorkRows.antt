@@ -1,8 +1,8 @@
 -- The rows of a step of work, the first of which that applies is made.
-use Rattle.std.specs.Prelude.{ℕ, ◌+◌, ◌-◌, ◌<◌, ◌≤◌, ◌≡◌, ◌⊎◌, Bool, true, false, List, [], length, Option, None, Some, slice_set}
+use Rattle.std.specs.Prelude.{ℕ, ◌<◌, ◌≡◌, ◌⊎◌, true, false, None, Some, slice_set}
 use Rattle.std.specs.Option.{is_some}
 use Rattle.ff_base.specs.declared.numbers.PageNo.{PageNo}
-use Rattle.ff_cache.specs.Cache.{first_of, is_full_set, way_at, with_value, CacheView, IsChosen, IsEmptyWay, IsInSet, SameSlots}
+use Rattle.ff_cache.specs.Cache.{is_full_set, way_at, with_value, IsChosen, IsEmptyWay}
 use Rattle.ff_cache.specs.Slots.{slot_at, slot_filled, slot_flushed, slot_flushing}
 use Rattle.ff_flash.specs.declared.flash.FlashStop.{FlashStop}
 use Rattle.ff_flash.specs.declared.flash.FlashStop.TheVariants.{Failed as FlashFailed, Off as FlashOff}
@@ -11,12 +11,11 @@ use Rattle.ff_lines.specs.declared.device.Work.{Work}
 use Rattle.ff_lines.specs.declared.device.Work.TheVariants.{Ready, Stepped, Pinned, Failed, Off}
 use Rattle.ff_rrip.specs.Ways.{is_allowed, long_value}
 use Rattle.ff_device.specs.Changes.{Changes}
-use Rattle.ff_device.specs.Chosen.{chosen}
 use Rattle.ff_device.specs.DeviceFields.{lines_of}
 use Rattle.ff_device.specs.Draining.{SameFrames}
-use Rattle.ff_device.specs.Parts.{is_resident, Parts}
-use Rattle.ff_device.specs.Steps.{chosen_way, may_go_at, IsChoice}
-use Rattle.ff_device.specs.Store.{page_bytes, DidFail, Pending, SealsPage, StoreView, WentOff, WentOn}
+use Rattle.ff_device.specs.Parts.{Parts}
+use Rattle.ff_device.specs.Steps.{chosen_way, may_go_at}
+use Rattle.ff_device.specs.Store.{page_bytes, DidFail, SealsPage, StoreView, WentOff, WentOn}
 
 -- the answer where the store stopped
 abbrev pub stopped_work : FlashStop → Work
@@ -59,7 +58,8 @@ pub record IsProgrammed (slot : ℕ) (old new : Parts) : Type 0 where
   pub cache : Changes page.0 slot_flushing old.cache new.cache
   pub window : new.window ≡ old.window
   pub pages : new.store.pages ≡ old.store.pages
-  pub pending : new.store.pending ≡ Some (record { page = page.0; bytes = (slot_at old.cache.slots slot).bytes })
+  pub pending : new.store.pending ≡ Some
+      (record { page = page.0; bytes = (slot_at old.cache.slots slot).bytes })
 
 -- the store made a collection step
 pub record IsCollected (old new : Parts) : Type 0 where
@@ -112,7 +112,8 @@ FlushRow slot (Pinned other) old new = ⊥
 -- no way of the page's set may give way
 abbrev pub NoWayRow : ℕ → Work → Parts → Parts → Type 0
 NoWayRow page Stepped old new =
-    HasUnpinned page old × IsDrained (lines_of old) (lines_of new) × SameFrames old.cache new.cache × (new.store ≡ old.store)
+    HasUnpinned page old × IsDrained (lines_of old) (lines_of new)
+    × SameFrames old.cache new.cache × (new.store ≡ old.store)
 NoWayRow page (Pinned named) old new = IsPinnedSet page named old × (new ≡ old)
 NoWayRow page Ready old new = ⊥
 NoWayRow page Failed old new = ⊥
@@ -122,16 +123,19 @@ NoWayRow page Off old new = ⊥
 -- dirty is flushed
 pub data IsStep (page : ℕ) (old : Parts) (result : Work) (new : Parts) : Type 0 where
   seals : is_some old.store.pending ≡ true → SealRow result old new → IsStep page old result new
-  fills : old.store.pending ≡ None → (slot : ℕ) → IsEmptyWay old.cache page slot → FetchRow page slot result old new
-    → IsStep page old result new
+  fills : old.store.pending ≡ None → (slot : ℕ) → IsEmptyWay old.cache page slot
+      → FetchRow page slot result old new
+      → IsStep page old result new
   no_way : old.store.pending ≡ None → is_full_set old.cache page ≡ true → chosen_way old page ≡ None
-    → NoWayRow page result old new → IsStep page old result new
+      → NoWayRow page result old new → IsStep page old result new
   replaces : old.store.pending ≡ None → is_full_set old.cache page ≡ true → (slot : ℕ) (mid : Parts)
-    → IsRaised page slot old mid → (slot_at old.cache.slots slot).dirty ≡ false → FetchRow page slot result mid new
-    → IsStep page old result new
+      → IsRaised page slot old mid → (slot_at old.cache.slots slot).dirty ≡ false
+      → FetchRow page slot result mid new
+      → IsStep page old result new
   flushes : old.store.pending ≡ None → is_full_set old.cache page ≡ true → (slot : ℕ) (mid : Parts)
-    → IsRaised page slot old mid → (slot_at old.cache.slots slot).dirty ≡ true → FlushRow slot result mid new
-    → IsStep page old result new
+      → IsRaised page slot old mid → (slot_at old.cache.slots slot).dirty ≡ true
+      → FlushRow slot result mid new
+      → IsStep page old result new
 
 -- a step of the collector
 abbrev pub CollectRow : Work → Parts → Parts → Type 0
@@ -144,6 +148,9 @@ CollectRow (Pinned other) old new = ⊥
 -- a turn of the collector: a flush that waits is sealed, or a collection that runs or is due makes a step
 pub data IsCollectTurn (old : Parts) (result : Work) (new : Parts) : Type 0 where
   turn_off : old.store.on ≡ false → result ≡ Off → new ≡ old → IsCollectTurn old result new
-  turn_seals : is_some old.store.pending ≡ true → SealRow result old new → IsCollectTurn old result new
-  turn_collects : old.store.pending ≡ None → old.store.wants ≡ true → CollectRow result old new → IsCollectTurn old result new
-  turn_idle : old.store.pending ≡ None → old.store.wants ≡ false → result ≡ Ready → new ≡ old → IsCollectTurn old result new
+  turn_seals : is_some old.store.pending ≡ true → SealRow result old new
+      → IsCollectTurn old result new
+  turn_collects : old.store.pending ≡ None → old.store.wants ≡ true
+      → CollectRow result old new → IsCollectTurn old result new
+  turn_idle : old.store.pending ≡ None → old.store.wants ≡ false → result ≡ Ready → new ≡ old
+      → IsCollectTurn old result new

@@ -38,7 +38,8 @@ impl<S: Store> Model for Device<S> {
 
     ghost view = { λ d. record { store = d.store; cache = d.cache; window = d.window } };
 
-    ghost invariant = { λ d. IsDeviceSound (record { store = S.seen d.store; cache = d.cache; window = d.window }) };
+    ghost invariant = { λ d. IsDeviceSound
+        (record { store = S.seen d.store; cache = d.cache; window = d.window }) };
 }
 
 /// A device's parts, handed out or back.
@@ -52,7 +53,12 @@ pub struct DeviceParts<S> {
 impl<S: Store> Device<S> {
     /// A device of parts of one geometry, with nothing in flight. For want of memory the parts are handed back.
     #[tactic(auto, using(crate::proofs::Beginning::begins))]
-    pub fn new(alloc: Global, store: S, cache: Cache, window: Window) -> Result<Device<S>, DeviceParts<S>>
+    pub fn new(
+        alloc: Global,
+        store: S,
+        cache: Cache,
+        window: Window,
+    ) -> Result<Device<S>, DeviceParts<S>>
         requires { CanBegin (record { store = S.seen store; cache = cache; window = window }) }
         ensures { MatchResult result
             (λ device. device ≡ record { store = store; cache = cache; window = window })

@@ -1,6 +1,6 @@
 // What the device asks of a store of pages.
 ghost use Rattle.std.specs.Prelude.{◌≡◌, ◌<◌, ◌≤◌, ◌^◌, OnOk, IsSome, None, false, length, option_map, Err};
-ghost use Rattle.ff_flash.specs.FlashState.{stop_of};
+ghost use Rattle.ff_flash.specs.Injected.{stop_of};
 ghost use Rattle.ff_lines.specs.PageSets.{count_below, with_page};
 ghost use Rattle.ff_device.specs.Store.{is_mapped, page_bytes, Flushes, IsStore, Powers, SameStore, Seals, StoreView};
 
@@ -37,7 +37,8 @@ pub trait Store {
 
     /// The page of the flush that is to be sealed.
     fn pending(&self) -> Option<PageNo>
-        ensures { option_map (λ page. page.0) result ≡ option_map (λ flush. flush.page) (seen self.now).pending };
+        ensures { option_map (λ page. page.0) result ≡ option_map
+            (λ flush. flush.page) (seen self.now).pending };
 
     /// Reads a page. One that isn't mapped is zeros.
     fn fetch(&mut self, page: PageNo, into: &mut PageBuf) -> Result<(), FlashStop>

@@ -16,7 +16,8 @@ use ff_base::PageNo;
 fn with_way(mask: u32, way: u32, may: bool) -> u32
     requires way { way < 32 }
     requires clear { is_allowed mask way ≡ false }
-    ensures { (other : ℕ) → is_allowed result other ≡ (if other == way then may else is_allowed mask other) }
+    ensures { (other : ℕ) → is_allowed result other
+        ≡ (if other == way then may else is_allowed mask other) }
 {
     if may { mask | 1 << way } else { mask }
 }
@@ -63,7 +64,8 @@ impl<S: Store> Device<S> {
             (λ slot. IsRaised page.0 slot (parts_of S.seen self.old) (parts_of S.seen self.new)) }
         ensures kept { IfNone result (self.new.cache ≡ self.old.cache) }
         ensures same { self.new ≡ record self.old {
-            cache = record self.old.cache { values = self.new.cache.values } } }
+          cache = record self.old.cache { values = self.new.cache.values };
+        } }
     {
         self.cache.known();
         let allowed = self.allowed(page);

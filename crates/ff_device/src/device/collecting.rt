@@ -1,7 +1,7 @@
 // A turn of the collector.
 ghost use Rattle.std.specs.Prelude.{◌≡◌, ◌<◌, ◌^◌, None, true, false};
 ghost use Rattle.std.specs.Option.{is_some};
-ghost use Rattle.ff_device.specs.DeviceFields.{lines_of, parts_of};
+ghost use Rattle.ff_device.specs.DeviceFields.{lines_in, parts_of};
 ghost use Rattle.ff_device.specs.Store.{SameStore};
 ghost use Rattle.ff_device.specs.WorkRows.{CollectRow, IsCollectTurn, Powered};
 ghost use Rattle.ff_lines.specs.Works.{IsIdle, KeepsLines};
@@ -48,8 +48,9 @@ impl<S: Store> Device<S> {
     pub fn collect_work(&mut self) -> Work
         requires { (S.seen self.old.store).used < 2 ^ 63 }
         ensures turn { IsCollectTurn (parts_of S.seen self.old) result (parts_of S.seen self.new) }
-        ensures kept { KeepsLines (lines_of (parts_of S.seen self.old)) (lines_of (parts_of S.seen self.new)) }
-        ensures powers { (S.seen self.old.store).on ≡ true → Powered result (S.seen self.old.store) (S.seen self.new.store) }
+        ensures kept { KeepsLines (lines_in S.seen self.old) (lines_in S.seen self.new) }
+        ensures powers { (S.seen self.old.store).on ≡ true
+            → Powered result (S.seen self.old.store) (S.seen self.new.store) }
     {
         self.parts_known();
         if self.store.is_on() {

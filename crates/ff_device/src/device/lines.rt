@@ -1,7 +1,8 @@
 // The device as one of lines.
 ghost use Rattle.std.specs.Prelude.{◌≡◌, ◌≤◌, ◌<◌, ◌+◌, ◌++◌, ◌∷◌, ◌==◌, ◌^◌, ℕ, [], true, false, length, drop, if◌then◌else◌};
 ghost use Rattle.std.specs.Option.{is_some};
-ghost use Rattle.ff_device.specs.DeviceFields.{lines_of, parts_of};
+ghost use Rattle.ff_device.specs.DeviceFields.{lines_in, parts_of};
+ghost use Rattle.ff_device.specs.Changes.{post_of};
 ghost use Rattle.ff_device.specs.Draining.{HitIf};
 ghost use Rattle.ff_lines.specs.Posts.{IsPost};
 ghost use Rattle.ff_lines.specs.DeviceState.{HasRoom, IsDevice, IsDrained, IsPinned, IsPosted, line_at};
@@ -17,23 +18,23 @@ use ff_model::Piece;
 impl<S: Store> Device<S> {
     // What every device of lines keeps.
     fn lines_known(&self)
-        ensures { IsDevice (lines_of (parts_of S.seen self.now)) }
+        ensures { IsDevice (lines_in S.seen self.now) }
     {
         self.store.known();
     }
 
     fn is_resident(&self, page: PageNo) -> bool
-        ensures { result ≡ (lines_of (parts_of S.seen self.now)).resident page.0 }
+        ensures { result ≡ (lines_in S.seen self.now).resident page.0 }
     {
         self.cache.find(page).is_some()
     }
 
     #[tactic(auto, using(crate::proofs::Touching::drained_values, crate::proofs::Touching::hit_frames))]
     fn read(&mut self, page: PageNo, line: u8, hit: bool) -> [u8; LINE_BYTES]
-        requires resident { (lines_of (parts_of S.seen self.old)).resident page.0 ≡ true }
+        requires resident { (lines_in S.seen self.old).resident page.0 ≡ true }
         requires line { line < 64 }
-        ensures bytes { result ≡ line_at (lines_of (parts_of S.seen self.old)) page.0 line }
-        ensures drained { IsDrained (lines_of (parts_of S.seen self.old)) (lines_of (parts_of S.seen self.new)) }
+        ensures bytes { result ≡ line_at (lines_in S.seen self.old) page.0 line }
+        ensures drained { IsDrained (lines_in S.seen self.old) (lines_in S.seen self.new) }
         ensures store { self.new.store ≡ self.old.store }
         ensures hit { HitIf hit page.0 self.old.cache self.new.cache.values }
     {
@@ -42,10 +43,10 @@ impl<S: Store> Device<S> {
     }
 
     fn put(&mut self, post: Post)
-        requires resident { (lines_of (parts_of S.seen self.old)).resident post.page.0 ≡ true }
+        requires resident { (lines_in S.seen self.old).resident post.page.0 ≡ true }
         requires post { IsPost post }
-        requires room { HasRoom (lines_of (parts_of S.seen self.old)) post.page.0 }
-        ensures posted { IsPosted post (lines_of (parts_of S.seen self.old)) (lines_of (parts_of S.seen self.new)) }
+        requires room { HasRoom (lines_in S.seen self.old) post.page.0 }
+        ensures posted { IsPosted post (lines_in S.seen self.old) (lines_in S.seen self.new) }
         ensures full { self.new.window.posts
             ≡ drop (if length self.old.window.posts == self.old.window.room then 1 else 0) self.old.window.posts ++ post ∷ [] }
         ensures store { self.new.store ≡ self.old.store }
@@ -57,8 +58,8 @@ impl<S: Store> Device<S> {
     }
 
     fn change_pin(&mut self, page: PageNo, on: bool)
-        requires { (lines_of (parts_of S.seen self.old)).resident page.0 ≡ true }
-        ensures pinned { IsPinned page.0 on (lines_of (parts_of S.seen self.old)) (lines_of (parts_of S.seen self.new)) }
+        requires { (lines_in S.seen self.old).resident page.0 ≡ true }
+        ensures pinned { IsPinned page.0 on (lines_in S.seen self.old) (lines_in S.seen self.new) }
         ensures store { self.new.store ≡ self.old.store }
         ensures values { self.new.cache.values ≡ self.old.cache.values }
     {
@@ -70,11 +71,11 @@ impl<S: Store> Device<S> {
 impl<S: Store> LineDevice for Device<S> {
     ghost use Rattle.std.specs.Prelude.{◌≡◌, ◌≤◌, ◌<◌, ◌+◌, ◌++◌, ◌∷◌, ◌==◌, ◌^◌, ℕ, [], true, false, length, drop, if◌then◌else◌};
     ghost use Rattle.std.specs.Option.{is_some};
-    ghost use Rattle.ff_device.specs.DeviceFields.{lines_of, parts_of};
+    ghost use Rattle.ff_device.specs.DeviceFields.{lines_in, parts_of};
 
     type Own = S;
 
-    ghost state = { λ d. lines_of (parts_of S.seen d) };
+    ghost state = { λ d. lines_in S.seen d };
 
     ghost own = { λ d. d.store };
 
@@ -84,10 +85,10 @@ impl<S: Store> LineDevice for Device<S> {
     }
 
     fn read_line(&mut self, page: PageNo, line: u8, hit: bool) -> [u8; LINE_BYTES]
-        requires resident { (lines_of (parts_of S.seen self.old)).resident page.0 ≡ true }
+        requires resident { (lines_in S.seen self.old).resident page.0 ≡ true }
         requires line { line < 64 }
-        ensures bytes { result ≡ line_at (lines_of (parts_of S.seen self.old)) page.0 line }
-        ensures drained { IsDrained (lines_of (parts_of S.seen self.old)) (lines_of (parts_of S.seen self.new)) }
+        ensures bytes { result ≡ line_at (lines_in S.seen self.old) page.0 line }
+        ensures drained { IsDrained (lines_in S.seen self.old) (lines_in S.seen self.new) }
         ensures own { self.new.store ≡ self.old.store }
         ensures hit { HitIf hit page.0 self.old.cache self.new.cache.values }
     {
@@ -95,15 +96,18 @@ impl<S: Store> LineDevice for Device<S> {
     }
 
     fn post(&mut self, page: PageNo, line: u8, from: u8, piece: &Piece, position: Option<u32>)
-        requires resident { (lines_of (parts_of S.seen self.old)).resident page.0 ≡ true }
+        requires resident { (lines_in S.seen self.old).resident page.0 ≡ true }
         requires line { line < 64 }
         requires fits { from + length piece.now ≤ 64 }
-        requires room { HasRoom (lines_of (parts_of S.seen self.old)) page.0 }
+        requires room { HasRoom (lines_in S.seen self.old) page.0 }
         ensures posted { IsPosted
             (record { page = page; line = line; from = from; bytes = piece.now; position = position })
-            (lines_of (parts_of S.seen self.old)) (lines_of (parts_of S.seen self.new)) }
+            (lines_in S.seen self.old) (lines_in S.seen self.new) }
         ensures own { self.new.store ≡ self.old.store }
         ensures hit { HitIf (is_some position) page.0 self.old.cache self.new.cache.values }
+        ensures full { self.new.window.posts
+            ≡ drop (if length self.old.window.posts == self.old.window.room then 1 else 0)
+            self.old.window.posts ++ post_of page line from piece.now position ∷ [] }
     {
         self.put(Post {
             page,
@@ -114,11 +118,20 @@ impl<S: Store> LineDevice for Device<S> {
         });
     }
 
-    fn drain_all(&mut self) {
+    fn drain_all(&mut self)
+        ensures drained { IsDrained (lines_in S.seen self.old) (lines_in S.seen self.new) }
+        ensures own { self.new.store ≡ self.old.store }
+        ensures values { self.new.cache.values ≡ self.old.cache.values }
+    {
         self.drain_window();
     }
 
-    fn pin(&mut self, page: PageNo, on: bool) {
+    fn pin(&mut self, page: PageNo, on: bool)
+        requires { (lines_in S.seen self.old).resident page.0 ≡ true }
+        ensures pinned { IsPinned page.0 on (lines_in S.seen self.old) (lines_in S.seen self.new) }
+        ensures own { self.new.store ≡ self.old.store }
+        ensures values { self.new.cache.values ≡ self.old.cache.values }
+    {
         self.change_pin(page, on);
     }
 
@@ -126,11 +139,12 @@ impl<S: Store> LineDevice for Device<S> {
     fn work(&mut self, page: PageNo) -> Work
         requires page { page.0 < length (S.seen self.old.store).pages }
         requires used { (S.seen self.old.store).used < 2 ^ 63 }
-        ensures answer { Works page.0 result (lines_of (parts_of S.seen self.old)) (lines_of (parts_of S.seen self.new)) }
-        ensures kept { KeepsLines (lines_of (parts_of S.seen self.old)) (lines_of (parts_of S.seen self.new)) }
+        ensures answer { Works page.0 result (lines_in S.seen self.old) (lines_in S.seen self.new) }
+        ensures kept { KeepsLines (lines_in S.seen self.old) (lines_in S.seen self.new) }
         ensures idle { IsIdle result → self.new ≡ self.old }
         ensures unpowered { (S.seen self.old.store).on ≡ false → self.new ≡ self.old }
-        ensures row { (S.seen self.old.store).on ≡ true → (lines_of (parts_of S.seen self.old)).resident page.0 ≡ false
+        ensures row { (S.seen self.old.store).on ≡ true
+            → (lines_in S.seen self.old).resident page.0 ≡ false
             → IsStep page.0 (parts_of S.seen self.old) result (parts_of S.seen self.new) }
     {
         if !self.store.is_on() {

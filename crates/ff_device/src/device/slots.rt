@@ -55,7 +55,8 @@ pub fn set_pin(cache: &mut Cache, page: PageNo, on: bool)
 pub fn use_again(cache: &mut Cache, slot: u32, hit: bool)
     requires { slot < length cache.old.slots }
     ensures { cache.new ≡ record cache.old {
-        values = (if hit then with_value cache.old slot near_value else cache.old.values) } }
+      values = (if hit then with_value cache.old slot near_value else cache.old.values);
+    } }
 {
     if hit {
         cache.hit(slot);

@@ -3,7 +3,7 @@ ghost use Rattle.std.specs.Prelude.{◌≡◌, ◌<◌, ◌^◌, None, true, fal
 ghost use Rattle.std.specs.Option.{is_some};
 ghost use Rattle.ff_cache.specs.Cache.{is_full_set, IsCacheSound, IsInSet};
 ghost use Rattle.ff_cache.specs.Slots.{held, slot_at};
-ghost use Rattle.ff_device.specs.DeviceFields.{lines_of, parts_of};
+ghost use Rattle.ff_device.specs.DeviceFields.{lines_in, parts_of};
 ghost use Rattle.ff_device.specs.Parts.{IsDeviceSound};
 ghost use Rattle.ff_device.specs.Steps.{chosen_way, may_go};
 ghost use Rattle.ff_device.specs.Store.{IsStore, SameStore};
@@ -134,12 +134,12 @@ impl<S: Store> Device<S> {
     pub fn work_for(&mut self, page: PageNo) -> Work
         requires page { page.0 < length (S.seen self.old.store).pages }
         requires used { (S.seen self.old.store).used < 2 ^ 63 }
-        requires absent { (lines_of (parts_of S.seen self.old)).resident page.0 ≡ false }
+        requires absent { (lines_in S.seen self.old).resident page.0 ≡ false }
         requires on { (S.seen self.old.store).on ≡ true }
         ensures row { IsStep page.0 (parts_of S.seen self.old) result (parts_of S.seen self.new) }
         ensures powers { Powered result (S.seen self.old.store) (S.seen self.new.store) }
-        ensures answer { Works page.0 result (lines_of (parts_of S.seen self.old)) (lines_of (parts_of S.seen self.new)) }
-        ensures kept { KeepsLines (lines_of (parts_of S.seen self.old)) (lines_of (parts_of S.seen self.new)) }
+        ensures answer { Works page.0 result (lines_in S.seen self.old) (lines_in S.seen self.new) }
+        ensures kept { KeepsLines (lines_in S.seen self.old) (lines_in S.seen self.new) }
         ensures idle { IsIdle result → self.new ≡ self.old }
     {
         self.parts_known();

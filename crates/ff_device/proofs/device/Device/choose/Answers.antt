@@ -16,7 +16,7 @@ pub returns-clause-told : goal.returns-clause-told
 returns-clause-told g c =
     let old : Parts = record { store = g.S.Store.seen c.self.inside.store; cache = c.self.inside.cache; window = c.self.inside.window } in
     let ways = subst (λ (d : DeviceView _). (way : ℕ) → way < d.cache.ways
-        → is_allowed c.allowed-allowed.result way ≡ may_go_at (parts_of g.S.Store.seen d) c.args.page.0 way) (sym c.self.view_is) c.allowed-allowed.ensures in
+    → is_allowed c.allowed-allowed.result way ≡ may_go_at (parts_of g.S.Store.seen d) c.args.page.0 way) (sym c.self.view_is) c.allowed-allowed.ensures in
     rw (← c.self.view_is)
     (choose_told old c.args.page.0 c.allowed-allowed.result c.choose_way.new.cache c.choose_way.result c.known.ensures
-        ways c.choose_way.ensures.same c.choose_way.ensures.told)
+    ways c.choose_way.ensures.same c.choose_way.ensures.told)

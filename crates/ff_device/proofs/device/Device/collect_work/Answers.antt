@@ -8,6 +8,8 @@ returns-then-is_on-clause-kept g c =
     let old : Parts = parts_of g.S.Store.seen c.args.self.now in
     let new : Parts = parts_of g.S.Store.seen c.collect_turn.new.self in
     turn_lines c.collect_turn.result old new (record {
-      sound = c.parts_known.ensures.sound; cache = c.parts_known.ensures.cache; store = c.parts_known.ensures.store;
+      sound = c.parts_known.ensures.sound;
+      cache = c.parts_known.ensures.cache;
+      store = c.parts_known.ensures.store;
       same = c.collect_turn.ensures.same;
     }) c.collect_turn.ensures.turn c.collect_turn.ensures.powers

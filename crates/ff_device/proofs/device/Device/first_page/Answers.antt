@@ -6,4 +6,4 @@ pub unreachable-requires : goal.unreachable-requires
 unreachable-requires g c =
     let full = rw (← c.self.view_is) at c.requires in
     full_first c.self.inside.cache c.args.page.0 c.first_slot-first.result c.known.ensures full c.first_slot-first.ensures.slot
-        (sym c.page.ensures ∙ c.in-None.is)
+    (sym c.page.ensures ∙ c.in-None.is)

@@ -1,6 +1,6 @@
 use Rattle.std.proofs.Common.{inr, refl}
 use Rattle.ff_device.specs.Parts.{Parts}
-use Rattle.ff_device.proofs.Sealing.{sealed_held, sealing_sound, Sealing}
+use Rattle.ff_device.proofs.Sealing.{sealed_held, sealing_sound}
 use Rattle.ff_device.proofs.Stopping.{stopped_sound}
 use Rattle.ff_device.proofs.device.Device.seal.Goals as goal
 
@@ -14,8 +14,13 @@ invariant_of-self g c =
     let old : Parts = record { store = g.S.Store.seen c.self.inside.store; cache = c.self.inside.cache; window = c.self.inside.window } in
     let new : Parts = record { store = g.S.Store.seen c.seal_step.new.self; cache = c.end_flush.new.cache; window = c.self.inside.window } in
     sealing_sound c.in-Ok-Sealed.page.0 old new (record {
-      sound = c.self.invariant; cache = c.known.ensures; store = c.known-2.ensures; seals = rw c.in-Ok-Sealed.field-0-is at c.in-Ok-Sealed.ensures.step;
-      ends = c.end_flush.ensures; window = refl; capacity = c.in-Ok-Sealed.ensures.same.capacity;
+      sound = c.self.invariant;
+      cache = c.known.ensures;
+      store = c.known-2.ensures;
+      seals = rw c.in-Ok-Sealed.field-0-is at c.in-Ok-Sealed.ensures.step;
+      ends = c.end_flush.ensures;
+      window = refl;
+      capacity = c.in-Ok-Sealed.ensures.same.capacity;
     })
 
 pub invariant_of-self-in-Err-Off : goal.invariant_of-self-in-Err-Off
