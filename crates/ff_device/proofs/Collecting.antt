@@ -7,7 +7,7 @@ use Rattle.ff_lines.specs.declared.device.Work.{Work}
 use Rattle.ff_lines.specs.declared.device.Work.TheVariants.{Ready, Stepped, Pinned, Failed, Off}
 use Rattle.ff_device.specs.DeviceFields.{lines_of}
 use Rattle.ff_device.specs.Parts.{IsDeviceSound, Parts}
-use Rattle.ff_device.specs.Store.{IsStore, SameStore}
+use Rattle.ff_device.specs.Store.{IsStoreViewSound, SameStore}
 use Rattle.ff_device.specs.WorkRows.{turn_off, turn_seals, turn_collects, turn_idle, CollectRow, IsCollectTurn, Powered, SealRow}
 use Rattle.ff_device.proofs.Keeping.{edited_keeps, keeps_lines, same_keeps, stopped_keeps, Keeps}
 use Rattle.ff_device.proofs.Sealing.{sealing_edited, sealing_slot, Sealing}
@@ -16,7 +16,7 @@ use Rattle.ff_device.proofs.Sealing.{sealing_edited, sealing_slot, Sealing}
 pub record Turning (old new : Parts) : Type 0 where
   pub sound : IsDeviceSound old
   pub cache : IsCacheSound old.cache
-  pub store : IsStore old.store
+  pub store : IsStoreViewSound old.store
   pub same : SameStore old.store new.store
 
 seal_keeps : (result : Work) (old new : Parts) → Turning old new → SealRow result old new → Keeps old new

@@ -13,7 +13,7 @@ use Rattle.ff_lines.specs.declared.post.Post.{Post}
 use Rattle.ff_device.specs.Draining.{SameFrames}
 use Rattle.ff_device.specs.Parts.{is_resident, Parts}
 use Rattle.ff_device.specs.Steps.{chosen_way, flush_steps, may_go, may_go_at, page_waits, soon_clean, steps_of_set, steps_of_slot, steps_of_way, steps_to}
-use Rattle.ff_device.specs.Store.{IsStore, Pending, StoreView}
+use Rattle.ff_device.specs.Store.{IsStoreViewSound, Pending, StoreView}
 use Rattle.ff_device.specs.WorkRows.{HasUnpinned}
 use Rattle.ff_device.proofs.Frames.{chosen_frames, frames_by, full_frames}
 use Rattle.ff_device.proofs.Oldest.{some_chosen}
@@ -179,7 +179,7 @@ sealed_way page wanted old new s frames less (Some way) =
     slot_less new.store old.store (way_at new.cache wanted way) (way_at old.cache wanted way) soon less
 
 -- the flush that waited was sealed
-pub sealed_falls : (page wanted : ℕ) (old new : Parts) → (s : Sealing page old new) → IsStore new.store
+pub sealed_falls : (page wanted : ℕ) (old new : Parts) → (s : Sealing page old new) → IsStoreViewSound new.store
     → new.store.most_left ≡ old.store.most_left → held old.cache.slots wanted ≡ None → held new.cache.slots wanted ≡ None
     → steps_to new wanted < steps_to old wanted
 sealed_falls page wanted old new s store most absent still =

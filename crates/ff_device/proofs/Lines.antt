@@ -16,7 +16,7 @@ use Rattle.ff_lines.proofs.PageOverlaid.{length-line_or_blank}
 use Rattle.ff_device.specs.DeviceFields.{lines_of}
 use Rattle.ff_device.specs.Parts.{cached, is_dirty, is_resident, is_written, page_below, slot_passes, IsDeviceSound, Parts}
 use Rattle.ff_device.specs.Steps.{chosen_way, flush_steps, most_steps, soon_clean, steps_of_set, steps_of_way, steps_to}
-use Rattle.ff_device.specs.Store.{is_mapped, IsStore, StoreView}
+use Rattle.ff_device.specs.Store.{is_mapped, IsStoreViewSound, StoreView}
 use Rattle.ff_device.proofs.Drained.{PutsLast}
 
 either_most : (pending : Bool) (most left : ℕ) → left ≤ most → (if pending then most else left) ≤ most
@@ -63,7 +63,7 @@ pinned_held None is = cc
 pinned_held (Some slot) is = refl
 
 -- what every device keeps
-pub lines_device : (parts : Parts) → IsDeviceSound parts → IsStore parts.store → IsDevice (lines_of parts)
+pub lines_device : (parts : Parts) → IsDeviceSound parts → IsStoreViewSound parts.store → IsDevice (lines_of parts)
 lines_device parts sound store = record {
   sizes = λ page line. length-line_or_blank (page_below parts page) line (sound.size page);
   within = sound.pages;

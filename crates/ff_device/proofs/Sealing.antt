@@ -8,7 +8,7 @@ use Rattle.ff_cache.specs.declared.slot.Slot.{Slot}
 use Rattle.ff_lines.specs.Posts.{waits_in}
 use Rattle.ff_device.specs.Changes.{Changes}
 use Rattle.ff_device.specs.Parts.{cached, is_written, IsDeviceSound, Parts}
-use Rattle.ff_device.specs.Store.{mapped, IsStore, SealsPage, StoreView}
+use Rattle.ff_device.specs.Store.{mapped, IsStoreViewSound, SealsPage, StoreView}
 use Rattle.ff_device.proofs.Edits.{edited_sound, Edited}
 use Rattle.ff_device.proofs.Holding.{changed_by}
 
@@ -26,7 +26,7 @@ sealed_held old page new sound seals =
 pub record Sealing (page : ℕ) (old new : Parts) : Type 0 where
   pub sound : IsDeviceSound old
   pub cache : IsCacheSound old.cache
-  pub store : IsStore old.store
+  pub store : IsStoreViewSound old.store
   pub seals : SealsPage page old.store new.store
   pub ends : Changes page slot_flushed old.cache new.cache
   pub window : new.window ≡ old.window

@@ -17,8 +17,8 @@ use Rattle.ff_device.specs.DeviceFields.{lines_of}
 use Rattle.ff_device.specs.Draining.{SameFrames}
 use Rattle.ff_device.specs.Parts.{is_resident, IsDeviceSound, Parts}
 use Rattle.ff_device.specs.Steps.{chosen_way, may_go, page_waits, soon_clean, steps_to}
-use Rattle.ff_device.specs.Store.{IsStore, Pending, SameStore}
-use Rattle.ff_device.specs.WorkRows.{FetchRow, FlushRow, IsFetched, IsProgrammed, IsRaised, IsSealed, IsStep, NoWayRow, Powered, SealRow}
+use Rattle.ff_device.specs.Store.{IsStoreViewSound, Pending, SameStore}
+use Rattle.ff_device.specs.WorkRows.{FetchRow, FlushRow, IsFetched, IsProgrammed, IsRaised, HasSealed, IsStep, NoWayRow, Powered, SealRow}
 use Rattle.ff_device.specs.WorkRows.{seals, fills, no_way, replaces, flushes}
 use Rattle.ff_device.proofs.Edits.{edited_resident}
 use Rattle.ff_device.proofs.Falls.{collected_falls, drained_falls, fetched_falls, flushing_soon, programmed_falls, sealed_falls}
@@ -42,11 +42,11 @@ none_of (Some slot) is = absurd (cc)
 pub record Working (page : ℕ) (old new : Parts) : Type 0 where
   pub sound : IsDeviceSound old
   pub cache : IsCacheSound old.cache
-  pub store : IsStore old.store
+  pub store : IsStoreViewSound old.store
   pub in_range : page < length old.store.pages
   pub absent : held old.cache.slots page ≡ None
   pub on : old.store.on ≡ true
-  pub after : IsStore new.store
+  pub after : IsStoreViewSound new.store
   pub same : SameStore old.store new.store
 
 -- the rows keep the lines, and a step that was made leaves fewer steps
@@ -65,7 +65,7 @@ failed_row page old new keeps = record { keeps = keeps; falls = λ e. absurd (cc
 off_row : (page : ℕ) (old new : Parts) → Keeps old new → Row page Off old new
 off_row page old new keeps = record { keeps = keeps; falls = λ e. absurd (cc); busy = λ e. cc; free = λ named e. cc }
 
-sealing_of : (page : ℕ) (old new : Parts) → Working page old new → (s : IsSealed old new) → Sealing s.page old new
+sealing_of : (page : ℕ) (old new : Parts) → Working page old new → (s : HasSealed old new) → Sealing s.page old new
 sealing_of page old new w s = record {
   sound = w.sound;
   cache = w.cache;

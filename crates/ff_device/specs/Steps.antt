@@ -66,9 +66,3 @@ steps_to parts page =
 -- the most that it can be
 abbrev pub most_steps : StoreView → ℕ
 most_steps store = store.most_left + 5
-
--- the slot is the way of the page's set that replacement chose
-pub record IsChoice (parts : Parts) (page slot : ℕ) : Type 0 where
-  pub in_set : IsInSet parts.cache page slot
-  pub goes : may_go parts.window.posts (slot_at parts.cache.slots slot) ≡ true
-  pub chosen : chosen_way parts page ≡ Some (slot - first_of parts.cache page)

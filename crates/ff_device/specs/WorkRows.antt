@@ -4,8 +4,6 @@ use Rattle.std.specs.Option.{is_some}
 use Rattle.ff_base.specs.declared.numbers.PageNo.{PageNo}
 use Rattle.ff_cache.specs.Cache.{is_full_set, way_at, with_value, IsChosen, IsEmptyWay}
 use Rattle.ff_cache.specs.Slots.{slot_at, slot_filled, slot_flushed, slot_flushing}
-use Rattle.ff_flash.specs.declared.flash.FlashStop.{FlashStop}
-use Rattle.ff_flash.specs.declared.flash.FlashStop.TheVariants.{Failed as FlashFailed, Off as FlashOff}
 use Rattle.ff_lines.specs.DeviceState.{IsDrained}
 use Rattle.ff_lines.specs.declared.device.Work.{Work}
 use Rattle.ff_lines.specs.declared.device.Work.TheVariants.{Ready, Stepped, Pinned, Failed, Off}
@@ -16,11 +14,6 @@ use Rattle.ff_device.specs.Draining.{SameFrames}
 use Rattle.ff_device.specs.Parts.{Parts}
 use Rattle.ff_device.specs.Steps.{chosen_way, may_go_at}
 use Rattle.ff_device.specs.Store.{page_bytes, DidFail, SealsPage, StoreView, WentOff, WentOn}
-
--- the answer where the store stopped
-abbrev pub stopped_work : FlashStop → Work
-stopped_work FlashFailed = Failed
-stopped_work FlashOff = Off
 
 -- what an answer says of power, operations and faults
 abbrev pub Powered : Work → StoreView → StoreView → Type 0
@@ -35,7 +28,7 @@ pub record IsStopped (old new : Parts) : Type 0 where
   pub pages : new.store.pages ≡ old.store.pages
 
 -- the flush that waited was sealed: the slot of its page is clean, unless it was touched since the program
-pub record IsSealed (old new : Parts) : Type 0 where
+pub record HasSealed (old new : Parts) : Type 0 where
   pub page : ℕ
   pub sealed : SealsPage page old.store new.store
   pub cache : Changes page slot_flushed old.cache new.cache
@@ -87,7 +80,7 @@ pub record IsRaised (page slot : ℕ) (old new : Parts) : Type 0 where
 
 -- a seal of the flush that waits
 abbrev pub SealRow : Work → Parts → Parts → Type 0
-SealRow Stepped old new = IsSealed old new
+SealRow Stepped old new = HasSealed old new
 SealRow Failed old new = IsStopped old new × (new.store.pending ≡ None)
 SealRow Off old new = IsStopped old new × (new.store.pending ≡ old.store.pending)
 SealRow Ready old new = ⊥

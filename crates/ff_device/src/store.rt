@@ -2,7 +2,7 @@
 ghost use Rattle.std.specs.Prelude.{◌≡◌, ◌<◌, ◌≤◌, ◌^◌, OnOk, IsSome, None, false, length, option_map, Err};
 ghost use Rattle.ff_flash.specs.Injected.{stop_of};
 ghost use Rattle.ff_lines.specs.PageSets.{count_below, with_page};
-ghost use Rattle.ff_device.specs.Store.{is_mapped, page_bytes, Flushes, IsStore, Powers, SameStore, Seals, StoreView};
+ghost use Rattle.ff_device.specs.Store.{is_mapped, page_bytes, Flushes, IsStoreViewSound, Powers, SameStore, SealsFlush, StoreView};
 
 use ff_base::{PageBuf, PageNo};
 use ff_flash::FlashStop;
@@ -26,7 +26,7 @@ pub trait Store {
 
     /// What every store keeps. For the prover alone.
     fn known(&self)
-        ensures { IsStore (seen self.now) };
+        ensures { IsStoreViewSound (seen self.now) };
 
     fn is_on(&self) -> bool
         ensures { result ≡ (seen self.now).on };
@@ -67,7 +67,7 @@ pub trait Store {
     fn seal_step(&mut self) -> Result<FlushStep, FlashStop>
         requires pending { IsSome (seen self.old).pending }
         requires used { (seen self.old).used < 2 ^ 63 }
-        ensures step { Seals result (seen self.old) (seen self.new) }
+        ensures step { SealsFlush result (seen self.old) (seen self.new) }
         ensures powers { Powers (stop_of result) (seen self.old) (seen self.new) }
         ensures same { SameStore (seen self.old) (seen self.new) };
 

@@ -3,8 +3,8 @@ ghost use Rattle.std.specs.Prelude.{◌≡◌, ◌<◌, ◌==◌, ◌+◌, ℕ, 
 ghost use Rattle.ff_cache.specs.Cache.{first_of, is_full_set, way_at};
 ghost use Rattle.ff_cache.specs.Slots.{is_empty, slot_at};
 ghost use Rattle.ff_device.specs.DeviceFields.{parts_of};
-ghost use Rattle.ff_device.specs.Steps.{chosen_way, may_go, may_go_at, IsChoice};
-ghost use Rattle.ff_device.specs.WorkRows.{HasUnpinned, IsPinnedSet, IsRaised};
+ghost use Rattle.ff_device.specs.Steps.{chosen_way, may_go, may_go_at};
+ghost use Rattle.ff_device.specs.WorkRows.{HasUnpinned, IsRaised};
 ghost use Rattle.ff_rrip.specs.Ways.{is_allowed};
 
 use super::slots::choose_way;

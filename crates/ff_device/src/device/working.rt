@@ -6,7 +6,7 @@ ghost use Rattle.ff_cache.specs.Slots.{held, slot_at};
 ghost use Rattle.ff_device.specs.DeviceFields.{lines_in, parts_of};
 ghost use Rattle.ff_device.specs.Parts.{IsDeviceSound};
 ghost use Rattle.ff_device.specs.Steps.{chosen_way, may_go};
-ghost use Rattle.ff_device.specs.Store.{IsStore, SameStore};
+ghost use Rattle.ff_device.specs.Store.{IsStoreViewSound, SameStore};
 ghost use Rattle.ff_device.specs.WorkRows.{FetchRow, FlushRow, IsStep, NoWayRow, Powered};
 ghost use Rattle.ff_lines.specs.Works.{IsIdle, KeepsLines, Works};
 
@@ -123,7 +123,7 @@ impl<S: Store> Device<S> {
     pub fn parts_known(&self)
         ensures sound { IsDeviceSound (parts_of S.seen self.now) }
         ensures cache { IsCacheSound self.now.cache }
-        ensures store { IsStore (S.seen self.now.store) }
+        ensures store { IsStoreViewSound (S.seen self.now.store) }
     {
         self.cache.known();
         self.store.known();
