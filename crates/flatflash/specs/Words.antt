@@ -1,6 +1,6 @@
 -- What the words ask the program for.
 use Rattle.std.specs.Prelude.{ℕ, ◌⊎◌, List}
-use Rattle.ff_words.specs.Words.{AreRefused, AskFor, EnterNone}
+use Rattle.ff_words.specs.Words.{AreRefused, AskFor}
 use Rattle.ff_words.specs.declared.asked.Command.TheVariants.{Schedule, Threads, Load}
 
 -- the words ask for a run of the input, row by row
@@ -13,4 +13,4 @@ AskForMore words = AskFor words Threads ⊎ ((number : ℕ) × AskFor words (Loa
 
 -- the words are no command that the program runs
 abbrev pub AreNoCommand : List (List ℕ) → Type 0
-AreNoCommand words = AreRefused words ⊎ EnterNone words ⊎ AskForMore words
+AreNoCommand words = AreRefused words ⊎ AskForMore words
