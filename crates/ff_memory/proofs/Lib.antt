@@ -1,4 +1,5 @@
 pub mod Alike
+pub mod Begins
 pub mod Finishes
 pub mod FlightMoves
 pub mod Flights
