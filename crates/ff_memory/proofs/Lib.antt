@@ -3,9 +3,11 @@ pub mod Begins
 pub mod Finishes
 pub mod FlightMoves
 pub mod Flights
+pub mod FrameStores
 pub mod Landings
 pub mod Lifts
 pub mod Moves
 pub mod Rooms
 pub mod Sites
 pub mod Steps
+pub mod StoreMoves
