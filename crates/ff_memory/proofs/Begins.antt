@@ -90,12 +90,12 @@ promoted-keeps m d p m' d' sound located can is =
           };
         };
         used = λ g held. rw after (elim (cases_eq g f) [
-            | inl same ↦ ap Some (sym same)
-            | inr other ↦
-                let before = ap (λ (x : Frame). x.page) (sym (others g other)) ∙ held in
-                let there = rw (can.home, can.at_rest) at (located.used g p before) in
-                absurd (none-some g there)
-          ]);
+          | inl same ↦ ap Some (sym same)
+          | inr other ↦
+              let before = ap (λ (x : Frame). x.page) (sym (others g other)) ∙ held in
+              let there = rw (can.home, can.at_rest) at (located.used g p before) in
+              absurd (none-some g there)
+        ]);
         pin = rw after (pinned-here p true is.device.mid d' is.device.pinned);
         dirty_born = λ j low held dirty. absurd (let a = none_dirty j in cc);
         written_born = λ q written.
@@ -179,7 +179,7 @@ coming-before false frames d p j f line copied clear = clear refl
 pub turned-keeps : (m : MemoryView) (d : DeviceState) (k : ℕ) (s : Slot) → IsEntryOf m d k s → s.way ≡ Coming
     → ((line : ℕ) → line < 64 → has_line (mask_others (frame_at m.frames s.frame).dirty) line ≡ not (has_line (frame_at m.frames s.frame).dirty line))
     → KeepsLinesOf s.page.0 s.frame m d
-      (home_set s.page.0 (Host s.frame) (slot_set k (Some (after_turn (frame_at m.frames s.frame).dirty s)) m)) d
+    (home_set s.page.0 (Host s.frame) (slot_set k (Some (after_turn (frame_at m.frames s.frame).dirty s)) m)) d
 turned-keeps m d k s e way whole =
     let p = s.page.0 in
     let f = s.frame in
@@ -220,12 +220,12 @@ turned-keeps m d k s e way whole =
           let was = place-before m d k s j e in
           place-after m d k s t next d j step
           ∙ rw bit (
-            leaving-lines (has_line frame.dirty j) next.frames d p j f (place m d p j)
-            (λ dirty.
-                let copied : has_line s.bits j ≡ true = coming.copied j low dirty in
-                sym (was ∙ rw (way, copied) refl))
-            (λ clean. sym (was ∙ rw way (
-                coming-before (has_line s.bits j) m.frames d p j f (line_at d p j) (λ copied. coming.clean j low clean copied) (λ clear. refl)))));
+          leaving-lines (has_line frame.dirty j) next.frames d p j f (place m d p j)
+          (λ dirty.
+          let copied : has_line s.bits j ≡ true = coming.copied j low dirty in
+          sym (was ∙ rw (way, copied) refl))
+          (λ clean. sym (was ∙ rw way (
+          coming-before (has_line s.bits j) m.frames d p j f (line_at d p j) (λ copied. coming.clean j low clean copied) (λ clear. refl)))));
     }
 
 -- the frame of a retreat is the page's home

@@ -66,7 +66,6 @@ carried-written line from piece bytes frame low fits size count =
           written.others j within other ∙ line_of-with_line_other frame.bytes line j bytes size low count (λ e. other (sym e));
     }
 
-
 abbrev pub base_of : Bool → List ℕ → List ℕ → List ℕ
 base_of true device frame = device
 base_of false device frame = frame
@@ -74,7 +73,7 @@ base_of false device frame = frame
 pub is-written : (carried : Bool) (line from : ℕ) (piece bytes : List ℕ) (frame : Frame) → line < 64 → from + length piece ≤ 64
     → length frame.bytes ≡ 4096 → length bytes ≡ 64
     → IsWritten line from piece (base_of carried bytes (line_of frame.bytes line)) frame
-      (stored_frame line from piece (carried_frame carried line bytes frame))
+    (stored_frame line from piece (carried_frame carried line bytes frame))
 is-written true line from piece bytes frame low fits size count = carried-written line from piece bytes frame low fits size count
 is-written false line from piece bytes frame low fits size count = stored-written line from piece frame low fits size
 
@@ -113,7 +112,7 @@ drains-like false m d d' is = rw is (like-none m d)
 pub carried-place : (b : Bool) (size : ℕ) (frames : List Frame) (d : DeviceState) (p line f from : ℕ) (piece : List ℕ)
     → length piece ≡ size → from + length piece ≤ 64 → length (line_at d p line) ≡ 64 → length (line_of (frame_at frames f).bytes line) ≡ 64
     → overlaid (base_of (carries_by Coming b size) (line_at d p line) (line_of (frame_at frames f).bytes line)) from piece
-      ≡ overlaid (line_from frames d p line (frame_in_flight Coming f b)) from piece
+    ≡ overlaid (line_from frames d p line (frame_in_flight Coming f b)) from piece
 carried-place true size frames d p line f from piece is fits device frame = refl
 carried-place false size frames d p line f from piece is fits device frame = elim (cases_Bool (size == 64)) [
   | inl whole ↦

@@ -4,9 +4,11 @@ pub mod Finishes
 pub mod FlightMoves
 pub mod Flights
 pub mod FrameStores
+pub mod FrameTwice
 pub mod Landings
 pub mod Lifts
 pub mod Moves
+pub mod PostStores
 pub mod Rooms
 pub mod Sites
 pub mod Steps

@@ -17,7 +17,7 @@ use Rattle.ff_lines.proofs.DeviceLines.{length-line_at}
 use Rattle.ff_memory.specs.Located.{IsAtRest, IsFlyingBy, IsInFlight, IsLeavingFlight, IsComingFlight, IsLocated, IsSited}
 use Rattle.ff_memory.specs.Memory.{IsMemorySound, MemoryView, entry_at, home_at}
 use Rattle.ff_memory.specs.Places.{Holds, frame_in_flight, frame_of_page, line_from, place, store_in_flight, storing_frame}
-use Rattle.ff_memory.specs.Stores.{IsFrameStore, IsStored, carried_frame, carries, carries_by, is_refused, stored_frame}
+use Rattle.ff_memory.specs.Stores.{IsFrameStore, IsStoreGiven, IsStored, carried_frame, carries, carries_by, is_refused, stored_frame}
 use Rattle.ff_memory.specs.declared.access.Access.{Access}
 use Rattle.ff_plb.specs.Plb.{entry_of}
 use Rattle.ff_plb.specs.Slot.{after_store, bits_after_store, flight_after_store, without_line}
@@ -36,16 +36,6 @@ use Rattle.ff_memory.proofs.Lifts.{mask-cases, mask-here, mask-more, mask-other}
 use Rattle.ff_memory.proofs.Moves.{IsMove, move-located, place-other}
 use Rattle.ff_memory.proofs.Rooms.{born-more, born-now, few-born}
 use Rattle.ff_memory.proofs.Sites.{SameAt, one-page, sited-holds, serving-frame}
-
--- what a store to a line of a page is given
-pub record IsStoreGiven (p line from : ℕ) (piece : List ℕ) (m : MemoryView) (d : DeviceState) : Type 0 where
-  pub sound : IsMemorySound m
-  pub device : IsDevice d
-  pub located : IsLocated m d
-  pub within : p < length m.table.homes
-  pub low : line < 64
-  pub fits : from + length piece ≤ 64
-  pub allowed : is_refused m p ≡ false
 
 -- the frame after the store
 pub record IsFrameAfter (f p line from : ℕ) (piece : List ℕ) (m : MemoryView) (d : DeviceState) (m' : MemoryView) : Type 0 where
@@ -120,7 +110,7 @@ pub record StoresLine (p f line from : ℕ) (piece : List ℕ) (m : MemoryView) 
   pub located : IsLocated m' d'
   pub stored : IsStored p line from piece m d m' d'
 
-stores-line : (p f line from : ℕ) (piece : List ℕ) (m : MemoryView) (d : DeviceState) (m' : MemoryView) (d' : DeviceState)
+pub stores-line : (p f line from : ℕ) (piece : List ℕ) (m : MemoryView) (d : DeviceState) (m' : MemoryView) (d' : DeviceState)
     → IsLocated m d → IsMove p f m d m' d' → place m' d' p line ≡ overlaid (place m d p line) from piece
     → ((j : ℕ) → j < 64 → j ≢ line → place m' d' p j ≡ place m d p j) → StoresLine p f line from piece m d m' d'
 stores-line p f line from piece m d m' d' located move here others = record {
@@ -181,7 +171,7 @@ leaving_flight-after old new line bits (Some flight) others is = elim (cases_Boo
 store-flies : (way : Way) (old new : Frame) (d d' : DeviceState) (p line from : ℕ) (piece base : List ℕ) (home : Home) (s : Slot)
     → line < 64 → IsWritten line from piece base old new → SameAt d d' p → IsFlyingBy way old d p home s
     → IsFlyingBy way new d' p home
-      (record s { bits = bits_after_store way line s.bits; flight = flight_after_store way line s.flight })
+    (record s { bits = bits_after_store way line s.bits; flight = flight_after_store way line s.flight })
 store-flies Coming old new d d' p line from piece base home s low written same is = record {
   home_is = is.home_is;
   idle = same.idle is.idle;
@@ -190,9 +180,9 @@ store-flies Coming old new d d' p line from piece base home s low written same i
       written.others j within before.0
       ∙ is.clean j within before.1 (sym (mask-other s.bits line j low before.0) ∙ copied) ∙ sym (same.lines j);
   copied = λ j within dirty. elim (written-dirty_cases line from piece base old new j low written dirty) [
-      | inl here ↦ ap (λ (i : ℕ). has_line (bits_after_store Coming line s.bits) i) here ∙ mask-here s.bits line low
-      | inr before ↦ mask-more s.bits line j low (is.copied j within before)
-    ];
+    | inl here ↦ ap (λ (i : ℕ). has_line (bits_after_store Coming line s.bits) i) here ∙ mask-here s.bits line low
+    | inr before ↦ mask-more s.bits line j low (is.copied j within before)
+  ];
   flies =
       coming_flight-after d d' p line s.bits (bits_after_store Coming line s.bits) s.flight same
       (λ j clear. elim (cases_Bool (has_line s.bits j)) [
@@ -218,9 +208,9 @@ store-here : (way : Way) (b : Bool) (m m' : MemoryView) (d d' : DeviceState) (p 
     → from + length piece ≤ 64 → has_line s.bits line ≡ b → store_in_flight way f b ≡ Some f → length (line_at d p line) ≡ 64
     → length (line_of (frame_at m.frames f).bytes line) ≡ 64
     → line_of (frame_at m'.frames f).bytes line
-      ≡ overlaid (base_of (carries_by way b (length piece)) (line_at d p line) (line_of (frame_at m.frames f).bytes line)) from piece
+    ≡ overlaid (base_of (carries_by way b (length piece)) (line_at d p line) (line_of (frame_at m.frames f).bytes line)) from piece
     → line_from m'.frames d' p line (frame_in_flight way f (has_line (bits_after_store way line s.bits) line))
-      ≡ overlaid (line_from m.frames d p line (frame_in_flight way f b)) from piece
+    ≡ overlaid (line_from m.frames d p line (frame_in_flight way f b)) from piece
 store-here Coming b m m' d d' p f line from piece s low fits bit goes device frame here =
     let set = mask-here s.bits line low in
     rw set (here ∙ carried-place b (length piece) m.frames d p line f from piece refl fits device frame)
@@ -231,7 +221,7 @@ store-here Leaving false m m' d d' p f line from piece s low fits bit goes devic
 store-other : (way : Way) (m m' : MemoryView) (d d' : DeviceState) (p f line j : ℕ) (s : Slot) → line < 64 → j ≢ line
     → line_of (frame_at m'.frames f).bytes j ≡ line_of (frame_at m.frames f).bytes j → line_at d' p j ≡ line_at d p j
     → line_from m'.frames d' p j (frame_in_flight way f (has_line (bits_after_store way line s.bits) j))
-      ≡ line_from m.frames d p j (frame_in_flight way f (has_line s.bits j))
+    ≡ line_from m.frames d p j (frame_in_flight way f (has_line s.bits j))
 store-other Coming m m' d d' p f line j s low other frame device =
     coming-line (has_line s.bits j) (has_line (bits_after_store Coming line s.bits) j) m.frames m'.frames d d' p j f
     (mask-more s.bits line j low) (λ copied. frame)

@@ -10,7 +10,7 @@ use Rattle.ff_memory.proofs.memory.Memory.begin_retreat.Goals as goal
 
 keeps : (g : Over) (c : goal.After-retreat g)
     → KeepsLinesOf c.args.page.0 c.retreat.ensures.step.frame c.args.self.now (g.D.LineDevice.state c.args.d.now) c.retreat.new.self
-      (g.D.LineDevice.state c.retreat.new.d)
+    (g.D.LineDevice.state c.retreat.new.d)
 keeps g c =
     let m = c.args.self.now in
     let is = c.retreat.ensures.step in
