@@ -11,5 +11,7 @@ pub mod Moves
 pub mod PostStores
 pub mod Rooms
 pub mod Sites
+pub mod Spans
 pub mod Steps
 pub mod StoreMoves
+pub mod Unreferred
