@@ -1,6 +1,7 @@
 pub mod Alike
 pub mod Begins
 pub mod Finishes
+pub mod Flat
 pub mod FlightMoves
 pub mod Flights
 pub mod FrameStores
@@ -15,3 +16,4 @@ pub mod Spans
 pub mod Steps
 pub mod StoreMoves
 pub mod Unreferred
+pub mod Worked

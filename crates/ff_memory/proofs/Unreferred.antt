@@ -107,7 +107,7 @@ unreferred-round m n n' from to order first second =
                   | inr from_on ↦
                       let start : nat_le from g ≡ true = le-leb from g from_on in
                       let early = rw (start, end) at in_first in
-                      rw (apart, start, high) (late ∙ early)
+                      rw (apart, start) (late ∙ early)
                 ]
           ];
       size = second.size ∙ first.size;
