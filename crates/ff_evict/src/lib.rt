@@ -1,13 +1,11 @@
-// A library with one function.
+//! Which page leaves the host memory when a frame is wanted: a hand goes over the frames, and the first with the least score
+//! is chosen. The hand and the scores are this project's own.
 #![tactic(auto)]
 
-ghost use Rattle.std.specs.Prelude.{◌≡◌};
-ghost use Rattle.ff_evict.specs.Echo.{echo_of};
+mod evictor;
+mod picker;
+#[cfg(test)]
+mod tests;
 
-// The `ensures` clause is the contract: what `echo` returns is `echo_of` of its argument, a definition
-// in `specs/Echo.antt`, which a caller's clause can cite too.
-pub fn echo(x: usize) -> usize
-    ensures { result ≡ echo_of x }
-{
-    x
-}
+pub use evictor::Evictor;
+pub use picker::{Pick, Picker};
