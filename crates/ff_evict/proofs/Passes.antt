@@ -15,7 +15,7 @@ before_or_last other steps below = elim (cases_lt other steps) [ inl before ↦ 
 pub found-skip : (score : Bool → ℕ → ℕ) (frames : List Frame) (slots : List (Option Slot)) (hand steps : ℕ) (before : Option Best)
     → may_leave frames slots (frame_after (length frames) hand steps) ≡ false
     → IsFoundWithin score frames slots hand steps before → IsFoundWithin score frames slots hand (steps + 1) before
-found-skip score frames slots hand steps None stays is other below = elim (before_or_last other steps below) [
+found-skip score frames slots hand steps None stays is = λ other below. elim (before_or_last other steps below) [
   | inl earlier ↦ is other earlier
   | inr last ↦ ap (λ (i : ℕ). may_leave frames slots (frame_after (length frames) hand i)) last ∙ stays
 ]
@@ -24,10 +24,10 @@ found-skip score frames slots hand steps (Some best) stays is = record {
   may = is.may;
   score_is = is.score_is;
   none_less = λ other below may. elim (before_or_last other steps below) [
-      | inl earlier ↦ is.none_less other earlier may
-      | inr last ↦
-          absurd (both_ways _ (ap (λ (i : ℕ). may_leave frames slots (frame_after (length frames) hand i)) last ∙ stays) may)
-    ];
+    | inl earlier ↦ is.none_less other earlier may
+    | inr last ↦
+        absurd (both_ways _ (ap (λ (i : ℕ). may_leave frames slots (frame_after (length frames) hand i)) last ∙ stays) may)
+  ];
   first = is.first;
 }
 
@@ -41,10 +41,10 @@ found-better score frames slots hand steps None points may is_points is = record
   may = may;
   score_is = is_points;
   none_less = λ other below leaves. elim (before_or_last other steps below) [
-      | inl earlier ↦ absurd (both_ways _ (is other earlier) leaves)
-      | inr last ↦
-          let same = ap (λ (i : ℕ). score_of score frames (frame_after (length frames) hand i)) last in omega (arith, same, is_points)
-    ];
+    | inl earlier ↦ absurd (both_ways _ (is other earlier) leaves)
+    | inr last ↦
+        let same = ap (λ (i : ℕ). score_of score frames (frame_after (length frames) hand i)) last in omega (arith, same, is_points)
+  ];
   first = λ other earlier leaves. absurd (both_ways _ (is other earlier) leaves);
 }
 found-better score frames slots hand steps (Some best) points may is_points is = elim (cases_Bool (nat_le best.least points)) [
@@ -55,11 +55,11 @@ found-better score frames slots hand steps (Some best) points may is_points is =
         may = is.may;
         score_is = is.score_is;
         none_less = λ other below leaves. elim (before_or_last other steps below) [
-            | inl earlier ↦ is.none_less other earlier leaves
-            | inr last ↦
-                let same = ap (λ (i : ℕ). score_of score frames (frame_after (length frames) hand i)) last in
-                omega (arith, same, is_points, less)
-          ];
+          | inl earlier ↦ is.none_less other earlier leaves
+          | inr last ↦
+              let same = ap (λ (i : ℕ). score_of score frames (frame_after (length frames) hand i)) last in
+              omega (arith, same, is_points, less)
+        ];
         first = is.first;
       }
   | inr worse ↦
@@ -69,11 +69,11 @@ found-better score frames slots hand steps (Some best) points may is_points is =
         may = may;
         score_is = is_points;
         none_less = λ other below leaves. elim (before_or_last other steps below) [
-            | inl earlier ↦ let more = is.none_less other earlier leaves in omega (arith, more, less)
-            | inr last ↦
-                let same = ap (λ (i : ℕ). score_of score frames (frame_after (length frames) hand i)) last in
-                omega (arith, same, is_points)
-          ];
+          | inl earlier ↦ let more = is.none_less other earlier leaves in omega (arith, more, less)
+          | inr last ↦
+              let same = ap (λ (i : ℕ). score_of score frames (frame_after (length frames) hand i)) last in
+              omega (arith, same, is_points)
+        ];
         first = λ other earlier leaves. let more = is.none_less other earlier leaves in omega (arith, more, less);
       }
 ]

@@ -87,8 +87,10 @@ impl<E: Pick> Evictor<E> {
         if frames.len() == 0 {
             return None;
         }
-        let best = self.best(frames, busy)?;
-        Some(frame_after(frames.len(), self.hand, best.steps))
+        match self.best(frames, busy) {
+            Some(best) => Some(frame_after(frames.len(), self.hand(), best.steps)),
+            None => None,
+        }
     }
 
     fn best(&self, frames: &Frames, busy: &Plb) -> Option<Best>
@@ -103,14 +105,20 @@ impl<E: Pick> Evictor<E> {
         best
     }
 
-    fn next_best(&self, frames: &Frames, busy: &Plb, steps: u32, before: Option<Best>) -> Option<Best>
+    fn next_best(
+        &self,
+        frames: &Frames,
+        busy: &Plb,
+        steps: u32,
+        before: Option<Best>,
+    ) -> Option<Best>
         requires hand { self.now.hand < length frames.now }
         requires steps { steps < length frames.now }
         requires few { length frames.now < 2 ^ 31 }
         requires before { IsFoundWithin (E.score self.now.pick) frames.now busy.now self.now.hand steps before }
         ensures { IsFoundWithin (E.score self.now.pick) frames.now busy.now self.now.hand (steps + 1) result }
     {
-        let frame = frame_after(frames.len(), self.hand, steps);
+        let frame = frame_after(frames.len(), self.hand(), steps);
         if !may_leave(frames, busy, frame) {
             return before;
         }
@@ -138,8 +146,9 @@ impl<E: Pick> Evictor<E> {
         ensures { self.new ≡ record self.old
             { hand = (if nat_lt (frame + 1) (length frames.now) then frame + 1 else 0) } }
     {
+        let count = frames.len();
         let next = frame + 1;
-        self.hand = if next < frames.len() { next } else { 0 };
+        self.hand = if next < count { next } else { 0 };
     }
 
     /// The picker that it was made with.
