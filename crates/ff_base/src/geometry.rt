@@ -1,10 +1,8 @@
-ghost use Rattle.std.specs.Prelude.{◌≡◌, IsOk, IfOk, IfErr, OnOk, ◌↔◌};
-ghost use Rattle.ff_base.specs.Geometry.{IsFirstBroken, IsWithin, IsWithinLimits, Keeps, capacity_of, default_geometry};
+// The sizes of the simulated device, and the check of their bounds.
+ghost use Rattle.std.specs.Prelude.{◌≡◌, ◌<◌, IfErr, OnOk};
+ghost use Rattle.ff_base.specs.Geometry.{IsAllowed, IsFirstBroken, IsWithinLimits, capacity_of, default_geometry, greatest_of, least_of};
 
-use crate::limits::{
-    BLOCKS, Bounds, CACHE_WAYS, FLASH_PAGES, FRAMES, LOW, Limit, LimitName, PAGES, PER_BLOCK, PLB,
-    SETS, WAYS, WINDOW,
-};
+use crate::limits::{Limit, LimitName};
 
 /// The sizes of the simulated device and of the host memory before it.
 #[derive(Clone, Copy, Debug, PartialEq, Eq)]
@@ -36,21 +34,17 @@ impl Geometry {
         ensures ok { OnOk result (IsWithinLimits self.now) }
         ensures err { IfErr result (IsFirstBroken self.now) }
     {
-        within(LimitName::Blocks, self.blocks, BLOCKS)?;
-        within(LimitName::PerBlock, self.per_block, PER_BLOCK)?;
-        within(LimitName::Pages, self.pages, PAGES)?;
-        within(LimitName::Sets, self.sets, SETS)?;
-        within(LimitName::Ways, self.ways, WAYS)?;
-        within(LimitName::Frames, self.frames, FRAMES)?;
-        within(LimitName::Plb, self.plb, PLB)?;
-        within(LimitName::Window, self.window, WINDOW)?;
-        within(LimitName::Low, self.low, LOW)?;
-        within(
-            LimitName::FlashPages,
-            self.blocks * self.per_block,
-            FLASH_PAGES,
-        )?;
-        within(LimitName::CacheWays, self.sets * self.ways, CACHE_WAYS)
+        within(LimitName::Blocks, self.blocks)?;
+        within(LimitName::PerBlock, self.per_block)?;
+        within(LimitName::Pages, self.pages)?;
+        within(LimitName::Sets, self.sets)?;
+        within(LimitName::Ways, self.ways)?;
+        within(LimitName::Frames, self.frames)?;
+        within(LimitName::Plb, self.plb)?;
+        within(LimitName::Window, self.window)?;
+        within(LimitName::Low, self.low)?;
+        within(LimitName::FlashPages, self.blocks * self.per_block)?;
+        within(LimitName::CacheWays, self.sets * self.ways)
     }
 
     /// How many logical pages the flash can hold and still be collected.
@@ -80,18 +74,17 @@ impl Default for Geometry {
     }
 }
 
-fn within(name: LimitName, value: u32, bounds: Bounds) -> Result<(), Limit>
-    ensures ok { OnOk result (IsWithin value bounds.least bounds.greatest) }
-    ensures told { IfErr result (λ limit. limit ≡ record { name = name; value = value; least = bounds.least; greatest = bounds.greatest }) }
-    ensures broken { IfErr result (λ limit. Keeps limit → ⊥) }
+fn within(name: LimitName, value: u32) -> Result<(), Limit>
+    ensures ok { OnOk result (IsAllowed name value) }
+    ensures name { IfErr result (λ limit. limit.name ≡ name) }
+    ensures value { IfErr result (λ limit. limit.value ≡ value) }
+    ensures least { IfErr result (λ limit. limit.least ≡ least_of name) }
+    ensures greatest { IfErr result (λ limit. limit.greatest ≡ greatest_of name) }
+    ensures broken { IfErr result (λ limit. IsAllowed name value → ⊥) }
 {
-    if value < bounds.least || bounds.greatest < value {
-        return Err(Limit {
-            name,
-            value,
-            least: bounds.least,
-            greatest: bounds.greatest,
-        });
+    let limit = Limit::of(name, value);
+    if value < limit.least || limit.greatest < value {
+        return Err(limit);
     }
     Ok(())
 }

@@ -7,6 +7,7 @@ mod marks;
 mod memory;
 mod numbers;
 mod page;
+mod reserved;
 #[cfg(test)]
 mod tests;
 
@@ -16,3 +17,4 @@ pub use marks::Marks;
 pub use memory::NoMemory;
 pub use numbers::{Block, Caller, LAST_EVENT, LINE_BYTES, PAGE_BYTES, PAGE_LINES, PageNo, Ppn};
 pub use page::PageBuf;
+pub use reserved::append_reserved;

@@ -1,3 +1,7 @@
+// The numbers of a geometry that have bounds, and the bounds.
+ghost use Rattle.std.specs.Prelude.{◌≡◌};
+ghost use Rattle.ff_base.specs.Geometry.{least_of, greatest_of};
+
 /// The numbers of a geometry that have bounds, in the order in which they are looked at.
 #[derive(Clone, Copy, Debug, PartialEq, Eq)]
 pub enum LimitName {
@@ -25,64 +29,32 @@ pub struct Limit {
     pub greatest: u32,
 }
 
-/// The least and the greatest value that a number may have.
-#[derive(Clone, Copy, Debug, PartialEq, Eq)]
-pub struct Bounds {
-    pub least: u32,
-    pub greatest: u32,
+impl Limit {
+    /// A number's value beside its bounds, whether it keeps them or not.
+    pub(crate) fn of(name: LimitName, value: u32) -> Limit
+        ensures name { result.name ≡ name }
+        ensures value { result.value ≡ value }
+        ensures least { result.least ≡ least_of name }
+        ensures greatest { result.greatest ≡ greatest_of name }
+    {
+        let (least, greatest) = match name {
+            LimitName::Blocks => (3, 4096),
+            LimitName::PerBlock => (2, 256),
+            LimitName::Pages => (1, 65_536),
+            LimitName::Sets => (1, 4096),
+            LimitName::Ways => (1, 16),
+            LimitName::Frames => (0, 4096),
+            LimitName::Plb => (1, 64),
+            LimitName::Window => (1, 64),
+            LimitName::Low => (1, 8),
+            LimitName::FlashPages => (6, 16_384),
+            LimitName::CacheWays => (1, 4096),
+        };
+        Limit {
+            name,
+            value,
+            least,
+            greatest,
+        }
+    }
 }
-
-pub const BLOCKS: Bounds = Bounds {
-    least: 3,
-    greatest: 4096,
-};
-
-pub const PER_BLOCK: Bounds = Bounds {
-    least: 2,
-    greatest: 256,
-};
-
-pub const PAGES: Bounds = Bounds {
-    least: 1,
-    greatest: 65_536,
-};
-
-pub const SETS: Bounds = Bounds {
-    least: 1,
-    greatest: 4096,
-};
-
-pub const WAYS: Bounds = Bounds {
-    least: 1,
-    greatest: 16,
-};
-
-pub const FRAMES: Bounds = Bounds {
-    least: 0,
-    greatest: 4096,
-};
-
-pub const PLB: Bounds = Bounds {
-    least: 1,
-    greatest: 64,
-};
-
-pub const WINDOW: Bounds = Bounds {
-    least: 1,
-    greatest: 64,
-};
-
-pub const LOW: Bounds = Bounds {
-    least: 1,
-    greatest: 8,
-};
-
-pub const FLASH_PAGES: Bounds = Bounds {
-    least: 6,
-    greatest: 16_384,
-};
-
-pub const CACHE_WAYS: Bounds = Bounds {
-    least: 1,
-    greatest: 4096,
-};

@@ -1,3 +1,4 @@
+// The persist marks of all pages.
 ghost use Rattle.std.specs.Prelude.{◌≡◌, ◌<◌, IfOk, length, List, ℕ, replicate, slice_set, slice_index};
 
 use crate::{NoMemory, PageNo};

@@ -1,3 +1,4 @@
+// Want of memory, as an error.
 use std::alloc::{AllocError, AllocFailed};
 
 /// Memory ran out. No contract says when that comes.

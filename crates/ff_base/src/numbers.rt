@@ -1,3 +1,4 @@
+// Pages, places, blocks, callers and sizes.
 /// A logical page, from 0. Its first byte has the address `4096 * page`.
 #[derive(Clone, Copy, Debug, PartialEq, Eq)]
 pub struct PageNo(pub u32);

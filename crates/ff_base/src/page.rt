@@ -1,6 +1,7 @@
+// The bytes of one page.
 ghost use Rattle.std.specs.Prelude.{◌≡◌, ◌<◌, ◌+◌, ◌*◌, IfOk, length, vec_len, List, ℕ};
 ghost use Rattle.ff_base.specs.Page.{blank_page, line_of, with_line};
-ghost use Rattle.ff_base.specs.declared.numbers.TheConstants.{PAGE_BYTES};
+ghost use Rattle.ff_base.specs.declared.numbers.TheConstants.{PAGE_BYTES, PAGE_LINES};
 
 use crate::{LINE_BYTES, NoMemory, PAGE_BYTES};
 use std::alloc::Global;
@@ -32,7 +33,7 @@ impl PageBuf {
 
     /// The 64 bytes of a line.
     pub fn line(&self, line: u8) -> [u8; LINE_BYTES]
-        requires { line < 64 }
+        requires { line < PAGE_LINES }
         ensures bytes { result ≡ line_of self.now line }
         ensures size { length self.now ≡ PAGE_BYTES }
     {
@@ -42,8 +43,9 @@ impl PageBuf {
         bytes
     }
 
+    /// Replaces the 64 bytes of a line.
     pub fn set_line(&mut self, line: u8, bytes: &[u8; LINE_BYTES])
-        requires { line < 64 }
+        requires { line < PAGE_LINES }
         ensures bytes { self.new ≡ with_line self.old line bytes.now }
         ensures size { length self.old ≡ PAGE_BYTES }
     {

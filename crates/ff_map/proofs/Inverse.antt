@@ -5,10 +5,12 @@ use Rattle.std.proofs.lemmas.Bool.{cases_eq, cases_lt}
 use Rattle.std.proofs.lemmas.Grind.{get_or-set_at}
 use Rattle.std.proofs.lemmas.List.{get_or-set_other, get_or_past}
 use Rattle.std.proofs.lemmas.Option.{same_Some, none-some}
+use Rattle.ff_base.specs.Geometry.{IsAllowed}
+use Rattle.ff_base.specs.declared.limits.LimitName.TheVariants.{FlashPages, Pages}
 use Rattle.ff_base.specs.declared.numbers.PageNo.{PageNo}
 use Rattle.ff_base.specs.declared.numbers.Ppn.{Ppn}
 use Rattle.ff_map.specs.Owners.{IsInverse, listed_owner, listed_place, released}
-use Rattle.ff_map.specs.MapView.{IsOneToOne}
+use Rattle.ff_map.specs.PageMap.{IsMapSound, IsOneToOne}
 use Rattle.ff_map.specs.declared.places.Mapping.{Mapping}
 
 same_page : (one other : PageNo) → one.0 ≡ other.0 → one ≡ other
@@ -35,6 +37,16 @@ pub one_to_one : (pages : List (Option Mapping)) (owners : List (Option PageNo))
 one_to_one pages owners next inverse = record {
   apart = λ at one other first second. same_Some one other (sym (inverse.owned one at first) ∙ inverse.owned other at second);
   within = λ at page there. place_within pages owners inverse page at there;
+}
+
+-- what every map keeps, of its view
+pub sound_view : (pages : List (Option Mapping)) (owners : List (Option PageNo)) (next : ℕ)
+    → IsInverse pages owners → IsAllowed Pages (length pages) → IsAllowed FlashPages (length owners)
+    → IsMapSound record { pages = pages; places = length owners; next_version = next }
+sound_view pages owners next inverse few_pages few_places = record {
+  one_to_one = one_to_one pages owners next inverse;
+  pages = few_pages;
+  places = few_places;
 }
 
 pub length-released : (old : Option Mapping) (owners : List (Option PageNo)) → length (released old owners) ≡ length owners

@@ -1,2 +1,3 @@
-pub mod Inverse
-pub mod Switching
+mod Inverse
+pub mod Lookups
+mod Switching

@@ -7,7 +7,7 @@ use Rattle.std.proofs.lemmas.List.Elements.{All-cons, All-nil}
 use Rattle.std.proofs.lemmas.Option.{same_Some}
 use Rattle.ff_base.specs.declared.numbers.PageNo.{PageNo}
 use Rattle.ff_base.specs.declared.numbers.Ppn.{Ppn}
-use Rattle.ff_map.specs.MapView.{MapView, mapping_of, IsFree, CanSwitch, IsSwitched, moved, moved_by}
+use Rattle.ff_map.specs.PageMap.{MapView, mapping_of, IsFree, CanSwitch, IsSwitched, moved, moved_by}
 use Rattle.ff_map.specs.declared.places.Mapping.{Mapping}
 use Rattle.ff_map.specs.declared.places.Move.{Move}
 

@@ -1,3 +1,3 @@
-pub mod MapFields
-pub mod MapView
 pub mod Owners
+pub mod PageMap
+pub mod PageMapFields

@@ -1,3 +1,4 @@
+// The pages by their places: the look-up, and what is left of a page's old place.
 ghost use Rattle.std.specs.Prelude.{◌≡◌, ◌<◌, length};
 ghost use Rattle.std.specs.Option.{ForSome};
 ghost use Rattle.ff_map.specs.Owners.{listed_owner, released};

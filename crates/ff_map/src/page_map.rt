@@ -1,3 +1,4 @@
+// The page map: the mappings by page, the owners by place, and the next version.
 ghost use Rattle.std.specs.Prelude.{◌≡◌, ◌<◌, ◌+◌, ◌-◌, ◌^◌, ◌↔◌, length, [], ◌∷◌, IfOk, Some};
 ghost use Rattle.ff_base.specs.Geometry.{IsWithinLimits};
 
@@ -16,11 +17,11 @@ pub struct PageMap {
 }
 
 impl Model for PageMap {
-    ghost use Rattle.ff_map.specs.MapView.{MapView};
+    ghost use Rattle.ff_map.specs.PageMap.{MapView};
 
     ghost Value = { MapView };
 
-    ghost use Rattle.ff_map.specs.MapFields.{view_of, IsKept};
+    ghost use Rattle.ff_map.specs.PageMapFields.{view_of, IsKept};
 
     ghost view = { view_of };
 
@@ -28,7 +29,7 @@ impl Model for PageMap {
 }
 
 impl PageMap {
-    ghost use Rattle.ff_map.specs.MapView.{mapping_of, place_of, version_of, IsOwner, IsOneToOne, IsFreeBut, CanSwitch, IsSwitched, empty_map, with_mapping};
+    ghost use Rattle.ff_map.specs.PageMap.{mapping_of, place_of, version_of, IsOwner, IsMapSound, IsFreeBut, CanSwitch, IsSwitched, drawn_map, empty_map, with_mapping};
 
     /// No page is mapped, and the next version is 1.
     pub fn new(alloc: Global, geometry: &Geometry) -> Result<PageMap, NoMemory>
@@ -44,11 +45,18 @@ impl PageMap {
         })
     }
 
-    /// That no two pages are at one place, and that every place is in range.
+    /// What every map keeps. For the prover alone.
     pub fn known(&self)
-        ensures { IsOneToOne self.now }
+        ensures { IsMapSound self.now }
     {
         let _ = &self.pages;
+    }
+
+    /// How many logical pages there are.
+    pub fn pages(&self) -> u32
+        ensures { result ≡ length self.now.pages }
+    {
+        self.pages.len() as u32
     }
 
     /// The place of a page.
@@ -106,7 +114,7 @@ impl PageMap {
     pub fn draw_version(&mut self) -> u64
         requires { self.old.next_version < 2 ^ 64 - 1 }
         ensures drawn { result ≡ self.old.next_version }
-        ensures map { self.new ≡ record self.old { next_version = self.old.next_version + 1 } }
+        ensures map { self.new ≡ drawn_map self.old }
     {
         let version = self.next_version;
         self.next_version = version + 1;

@@ -1,3 +1,4 @@
+// What is known of a page's place, and a move of a page.
 use ff_base::{PageNo, Ppn};
 
 /// Where a logical page is, and since which version.

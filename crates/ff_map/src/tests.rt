@@ -1,3 +1,4 @@
+// The map's calls on four pages and six places.
 ghost use Rattle.std.specs.Prelude.{◌≡◌, ◌≢◌, ◌<◌, length};
 ghost use Rattle.ff_base.specs.Geometry.{IsWithinLimits};
 

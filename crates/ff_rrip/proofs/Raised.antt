@@ -1,7 +1,7 @@
 -- Values of which those of the allowed ways are raised, way by way.
 use Rattle.std.proofs.Common.{◌≡◌, ◌<◌, ℕ, ◌+◌, zero, suc, List, [], ◌∷◌, length, get_or, refl, ap, ◌∙◌, sym, arith}
 use Rattle.std.proofs.lemmas.Grind.{same_number_lists}
-use Rattle.ff_rrip.specs.Values.{raised, raised_from, raised_value}
+use Rattle.ff_rrip.specs.Ways.{raised, raised_from, raised_value}
 
 -- raising keeps the number of ways
 length-raised_from : (way allowed by : ℕ) (values : List ℕ) → length (raised_from way allowed by values) ≡ length values

@@ -1,1 +1,3 @@
-pub mod Values
+pub mod Oldest
+pub mod Ways
+pub mod WaysFields

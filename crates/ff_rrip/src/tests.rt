@@ -1,3 +1,4 @@
+// Values and victims of sets of four ways, and of the most ways.
 ghost use Rattle.std.specs.Prelude.{◌≡◌, length};
 
 use super::*;

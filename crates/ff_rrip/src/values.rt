@@ -1,5 +1,7 @@
+// The passes over the values of a set: the oldest way, and raising the allowed ones.
 ghost use Rattle.std.specs.Prelude.{◌↔◌, IsNone, ◌≡◌, ◌<◌, ◌≤◌, ◌+◌, ◌∷◌, [], length, ℕ, slice_index, IfSome, IfNone, IsTrue};
-ghost use Rattle.ff_rrip.specs.Values.{IsKept, IsOldestBelow, IsVictim, NoneAllowed, has_bit, raised, raised_value};
+ghost use Rattle.ff_rrip.specs.Oldest.{IsOldestBelow};
+ghost use Rattle.ff_rrip.specs.Ways.{IsVictimWay, IsWaysSound, NoneAllowed, distant_value, is_allowed, raised, raised_value};
 
 /// The greatest value: the way is expected last.
 pub const DISTANT: u8 = 3;
@@ -12,7 +14,7 @@ pub const NEAR: u8 = 0;
 
 fn is_allowed(allowed: u32, way: usize) -> bool
     requires { way < 32 }
-    ensures { result ≡ has_bit allowed way }
+    ensures { result ≡ is_allowed allowed way }
 {
     allowed >> way & 1 == 1
 }
@@ -58,8 +60,8 @@ fn raised_value(value: u8, allowed: u32, way: usize, by: u8) -> u8
 }
 
 fn raise(values: &mut [u8], allowed: u32, by: u8)
-    requires values { IsKept values.old }
-    requires by { by ≤ 3 }
+    requires values { IsWaysSound values.old }
+    requires by { by ≤ distant_value }
     ensures { values.new ≡ raised allowed by values.old }
 {
     for (way, value) in values.iter_mut().enumerate() {
@@ -69,11 +71,11 @@ fn raise(values: &mut [u8], allowed: u32, by: u8)
 
 /// Raises the allowed ways until one has the greatest value, and answers the least that has it.
 pub fn victim(values: &mut [u8], allowed: u32) -> Option<usize>
-    requires { IsKept values.old }
-    ensures found { IfSome result (IsVictim allowed values.old values.new) }
+    requires { IsWaysSound values.old }
+    ensures found { IfSome result (IsVictimWay allowed values.old values.new) }
     ensures none { IsNone result ↔ NoneAllowed values.old allowed }
     ensures same { IfNone result (values.new ≡ values.old) }
-    ensures kept { IsKept values.new }
+    ensures kept { IsWaysSound values.new }
 {
     let way = oldest(values, allowed)?;
     let by = DISTANT - values[way];

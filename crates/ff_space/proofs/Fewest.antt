@@ -1,7 +1,7 @@
 -- What the scan for the fewest mapped pages has found so far.
 use Rattle.std.specs.Prelude.{ℕ, ◌<◌, ◌≤◌, ◌≡◌, List, Option, Some, None}
 use Rattle.ff_base.specs.declared.numbers.Block.{Block}
-use Rattle.ff_space.specs.Tables.{entry_at}
+use Rattle.ff_space.specs.BlockTable.{entry_at}
 use Rattle.ff_space.specs.declared.block.BlockEntry.{BlockEntry}
 use Rattle.ff_space.specs.declared.block.BlockState.TheVariants.{Full}
 

@@ -5,18 +5,18 @@ use Rattle.ff_space.specs.declared.block.BlockState.{BlockState}
 use Rattle.ff_space.specs.declared.block.BlockState.TheVariants.{Erased, Open, Full, Held, Waiting}
 
 -- the write place and the count of mapped pages that a block of this state may have
-abbrev pub Fits : ℕ → BlockState → ℕ → ℕ → Type 0
-Fits per_block Erased next mapped = next ≡ 0
-Fits per_block Open next mapped = next < per_block
-Fits per_block Full next mapped = next ≡ per_block
-Fits per_block Held next mapped = Unit {0}
-Fits per_block Waiting next mapped = mapped ≡ 0
+abbrev pub StateFits : ℕ → BlockState → ℕ → ℕ → Type 0
+StateFits per_block Erased next mapped = next ≡ 0
+StateFits per_block Open next mapped = next < per_block
+StateFits per_block Full next mapped = next ≡ per_block
+StateFits per_block Held next mapped = Unit {0}
+StateFits per_block Waiting next mapped = mapped ≡ 0
 
 -- a block has no more mapped pages than programmed ones, and its state fits its write place
 pub record IsBlockSound (per_block : ℕ) (block : BlockEntry) : Type 0 where
   pub mapped : block.mapped ≤ block.next
   pub next : block.next ≤ per_block
-  pub fits : Fits per_block block.state block.next block.mapped
+  pub fits : StateFits per_block block.state block.next block.mapped
 
 -- a block every page of which is erased
 abbrev pub erased_block : BlockEntry
@@ -34,9 +34,9 @@ is_erased Full = false
 is_erased Held = false
 is_erased Waiting = false
 
--- the state of a block with this write place that is neither held nor waiting
-abbrev pub state_at : ℕ → ℕ → BlockState
-state_at per_block next = if next == 0 then Erased else (if next == per_block then Full else Open)
+-- the state of a block by its write place alone, where it is neither held nor waiting
+abbrev pub state_by_next : ℕ → ℕ → BlockState
+state_by_next per_block next = if next == 0 then Erased else (if next == per_block then Full else Open)
 
 -- the state of a block after its write place was raised to this one: an open block may become full
 abbrev pub raised_state : ℕ → BlockState → ℕ → BlockState
@@ -48,12 +48,15 @@ raised_state per_block Waiting next = Waiting
 
 -- the block after one more of its pages was programmed
 abbrev pub advanced : ℕ → BlockEntry → BlockEntry
-advanced per_block block = record block { state = raised_state per_block block.state (block.next + 1); next = block.next + 1 }
+advanced per_block block = record block {
+  state = raised_state per_block block.state (block.next + 1);
+  next = block.next + 1;
+}
 
 -- the block as the destination of a collection, or no longer so
-abbrev pub after_hold : ℕ → BlockEntry → Bool → BlockEntry
-after_hold per_block block true = record block { state = Held }
-after_hold per_block block false = record block { state = state_at per_block block.next }
+abbrev pub after_hold : ℕ → Bool → BlockEntry → BlockEntry
+after_hold per_block true block = record block { state = Held }
+after_hold per_block false block = record block { state = state_by_next per_block block.next }
 
 -- the block with one more mapped page
 abbrev pub mapped_more : BlockEntry → BlockEntry
@@ -67,9 +70,22 @@ mapped_less block = record block { mapped = block.mapped - 1 }
 abbrev pub waiting : BlockEntry → BlockEntry
 waiting block = record block { state = Waiting }
 
+-- the destination of a collection that ends: held no more, with so many more mapped pages
+abbrev pub filled : ℕ → ℕ → BlockEntry → BlockEntry
+filled per_block more block = record {
+  state = state_by_next per_block block.next;
+  next = block.next;
+  mapped = block.mapped + more;
+}
+
+-- the victim of a collection that ends: it waits to be erased, and none of its pages is mapped
+abbrev pub emptied : BlockEntry → BlockEntry
+emptied block = record { state = Waiting; next = block.next; mapped = 0 }
+
 -- a block found with this write place, and nothing mapped
 abbrev pub block_placed : ℕ → ℕ → BlockEntry
-block_placed per_block next = record { state = state_at per_block next; next = next; mapped = 0 }
+block_placed per_block next =
+    record { state = state_by_next per_block next; next = next; mapped = 0 }
 
 -- a block in this state is programmed: it is open or held
 abbrev pub IsWritable : BlockState → Type 0
@@ -79,6 +95,6 @@ IsWritable Erased = ⊥
 IsWritable Full = ⊥
 IsWritable Waiting = ⊥
 
--- the block may take one more page: it is open or held, and has a place left
+-- one more page of the block may be programmed: it is open or held, and has one left
 abbrev pub CanAdvance : ℕ → BlockEntry → Type 0
 CanAdvance per_block block = (block.next < per_block) × IsWritable block.state

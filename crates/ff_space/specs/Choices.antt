@@ -1,16 +1,11 @@
 -- Which block is chosen: the least one with a property, looked at over all blocks.
 use Rattle.std.specs.Prelude.{ℕ, ◌+◌, ◌*◌, ◌/◌, ◌<◌, ◌≤◌, ◌≡◌, List, length}
-use Rattle.ff_space.specs.Tables.{TableView, block_at, entry_at, erased_count}
+use Rattle.ff_space.specs.BlockTable.{IsInState, TableView, block_at, entry_at, erased_count}
 use Rattle.ff_space.specs.declared.block.BlockEntry.{BlockEntry}
 use Rattle.ff_space.specs.declared.block.BlockState.{BlockState}
 use Rattle.ff_space.specs.declared.block.BlockState.TheVariants.{Erased, Open, Full}
 use Rattle.ff_space.specs.declared.table.Place.{Place}
 use Rattle.ff_space.specs.declared.table.Place.TheVariants.{Free, TakeErased, Nowhere}
-
--- there is such a block, and it is in this state
-pub record IsInState (blocks : List BlockEntry) (wanted : BlockState) (block : ℕ) : Type 0 where
-  pub in_range : block < length blocks
-  pub state : (entry_at blocks block).state ≡ wanted
 
 -- there is such a block, it is full, and not all of its pages are mapped
 pub record IsCollectable (per_block : ℕ) (blocks : List BlockEntry) (block : ℕ) : Type 0 where
@@ -23,18 +18,21 @@ pub record IsLeast (P : ℕ → Type 0) (block : ℕ) : Type 0 where
   pub least : (other : ℕ) → P other → block ≤ other
 
 -- no block has the property
-abbrev pub IsNone : (ℕ → Type 0) → Type 0
-IsNone P = (block : ℕ) → P block → ⊥
+abbrev pub NoBlock : (ℕ → Type 0) → Type 0
+NoBlock P = (block : ℕ) → P block → ⊥
 
 -- the block to collect: no other has fewer mapped pages, and those with as many are not before it
-pub record IsVictim (per_block : ℕ) (blocks : List BlockEntry) (block : ℕ) : Type 0 where
+pub record IsVictimBlock (per_block : ℕ) (blocks : List BlockEntry) (block : ℕ) : Type 0 where
   pub has : IsCollectable per_block blocks block
-  pub fewest : (other : ℕ) → IsCollectable per_block blocks other → (entry_at blocks block).mapped ≤ (entry_at blocks other).mapped
-  pub first : (other : ℕ) → IsCollectable per_block blocks other → (entry_at blocks other).mapped ≡ (entry_at blocks block).mapped → block ≤ other
+  pub fewest : (other : ℕ) → IsCollectable per_block blocks other
+    → (entry_at blocks block).mapped ≤ (entry_at blocks other).mapped
+  pub first : (other : ℕ) → IsCollectable per_block blocks other
+    → (entry_at blocks other).mapped ≡ (entry_at blocks block).mapped → block ≤ other
 
 -- every full block has all its pages mapped
 abbrev pub IsAllMapped : TableView → Type 0
-IsAllMapped table = (block : ℕ) → IsInState table.blocks Full block → (block_at table block).mapped ≡ table.per_block
+IsAllMapped table = (block : ℕ) → IsInState table.blocks Full block
+    → (block_at table block).mapped ≡ table.per_block
 
 -- the page is the write place of the least open block, and lies in it
 pub record IsFreePlace (table : TableView) (page : ℕ) : Type 0 where
@@ -44,18 +42,18 @@ pub record IsFreePlace (table : TableView) (page : ℕ) : Type 0 where
   pub lies_in : page / table.per_block ≡ block
 
 -- no block is open, two or more are erased, and this is the least of them
-pub record IsErasedPlace (table : TableView) (block : ℕ) : Type 0 where
-  pub none_open : IsNone (IsInState table.blocks Open)
+pub record IsBlockToTake (table : TableView) (block : ℕ) : Type 0 where
+  pub none_open : NoBlock (IsInState table.blocks Open)
   pub spare : 2 ≤ erased_count table.blocks
   pub least : IsLeast (IsInState table.blocks Erased) block
 
 -- no block is open, and at most one is erased
 pub record IsNoPlace (table : TableView) : Type 0 where
-  pub none_open : IsNone (IsInState table.blocks Open)
+  pub none_open : NoBlock (IsInState table.blocks Open)
   pub few : erased_count table.blocks < 2
 
 -- where the next page is programmed
 abbrev pub IsPlace : TableView → Place → Type 0
 IsPlace table (Free page) = IsFreePlace table page.0
-IsPlace table (TakeErased block) = IsErasedPlace table block.0
+IsPlace table (TakeErased block) = IsBlockToTake table block.0
 IsPlace table Nowhere = IsNoPlace table

@@ -1,5 +1,5 @@
+pub mod BlockTable
+pub mod BlockTableFields
 pub mod Blocks
 pub mod Choices
 pub mod Scanned
-pub mod TableFields
-pub mod Tables

@@ -1,5 +1,6 @@
+// One block of the table: its state, its write place and its mapped pages, and what a call makes of them.
 ghost use Rattle.std.specs.Prelude.{ℕ, ◌≡◌, ◌≢◌, ◌+◌, ◌<◌, ◌≤◌, ◌^◌, if◌then◌else◌};
-ghost use Rattle.ff_space.specs.Blocks.{CanAdvance, IsBlockSound, advanced, after_hold, block_placed, is_erased, mapped_less, mapped_more, raised_state, state_at, taken_block, erased_block, waiting};
+ghost use Rattle.ff_space.specs.Blocks.{CanAdvance, IsBlockSound, advanced, after_hold, block_placed, emptied, filled, is_erased, mapped_less, mapped_more, raised_state, state_by_next, taken_block, erased_block, waiting};
 ghost use Rattle.ff_space.specs.declared.block.BlockState.TheVariants.{Erased, Held, Waiting};
 
 /// What a block of the flash is used for.
@@ -21,7 +22,7 @@ pub enum BlockState {
 #[derive(Clone, Copy)]
 pub struct BlockEntry {
     pub state: BlockState,
-    /// The write place: the place in the block of the page to be programmed next.
+    /// Its write place, the page to be programmed next, counted in pages from the block's first.
     pub next: u32,
     /// Pages that hold the present bytes of a logical page.
     pub mapped: u32,
@@ -38,8 +39,8 @@ impl BlockState {
         }
     }
 
-    fn at(per_block: u32, next: u32) -> BlockState
-        ensures { result ≡ state_at per_block next }
+    fn by_next(per_block: u32, next: u32) -> BlockState
+        ensures { result ≡ state_by_next per_block next }
     {
         if next == 0 {
             BlockState::Erased
@@ -89,7 +90,7 @@ impl BlockEntry {
         ensures sound { IsBlockSound per_block result }
     {
         BlockEntry {
-            state: BlockState::at(per_block, next),
+            state: BlockState::by_next(per_block, next),
             next,
             mapped: 0,
         }
@@ -112,13 +113,13 @@ impl BlockEntry {
     pub(crate) fn after_hold(self, per_block: u32, on: bool) -> BlockEntry
         requires sound { IsBlockSound per_block self }
         requires state { self.state ≡ (if on then Erased else Held) }
-        ensures block { result ≡ after_hold per_block self on }
+        ensures block { result ≡ after_hold per_block on self }
         ensures sound { IsBlockSound per_block result }
     {
         let state = if on {
             BlockState::Held
         } else {
-            BlockState::at(per_block, self.next)
+            BlockState::by_next(per_block, self.next)
         };
         BlockEntry { state, ..self }
     }
@@ -127,7 +128,8 @@ impl BlockEntry {
         requires used { self.state ≢ Waiting }
         requires room { self.mapped < self.next }
         ensures block { result ≡ mapped_more self }
-        ensures sound { (per_block : ℕ) → IsBlockSound per_block self → IsBlockSound per_block result }
+        ensures sound { (per_block : ℕ) →
+            IsBlockSound per_block self → IsBlockSound per_block result }
     {
         BlockEntry {
             mapped: self.mapped + 1,
@@ -138,7 +140,8 @@ impl BlockEntry {
     pub(crate) fn mapped_less(self) -> BlockEntry
         requires { 0 < self.mapped }
         ensures block { result ≡ mapped_less self }
-        ensures sound { (per_block : ℕ) → IsBlockSound per_block self → IsBlockSound per_block result }
+        ensures sound { (per_block : ℕ) →
+            IsBlockSound per_block self → IsBlockSound per_block result }
     {
         BlockEntry {
             mapped: self.mapped - 1,
@@ -146,10 +149,36 @@ impl BlockEntry {
         }
     }
 
+    pub(crate) fn filled(self, per_block: u32, more: u32) -> BlockEntry
+        requires sound { IsBlockSound per_block self }
+        requires room { self.mapped + more ≤ self.next }
+        ensures block { result ≡ filled per_block more self }
+        ensures sound { IsBlockSound per_block result }
+    {
+        BlockEntry {
+            state: BlockState::by_next(per_block, self.next),
+            mapped: self.mapped + more,
+            ..self
+        }
+    }
+
+    pub(crate) fn emptied(self) -> BlockEntry
+        ensures block { result ≡ emptied self }
+        ensures sound { (per_block : ℕ) →
+            IsBlockSound per_block self → IsBlockSound per_block result }
+    {
+        BlockEntry {
+            state: BlockState::Waiting,
+            mapped: 0,
+            ..self
+        }
+    }
+
     pub(crate) fn waiting(self) -> BlockEntry
         requires { self.mapped ≡ 0 }
         ensures block { result ≡ waiting self }
-        ensures sound { (per_block : ℕ) → IsBlockSound per_block self → IsBlockSound per_block result }
+        ensures sound { (per_block : ℕ) →
+            IsBlockSound per_block self → IsBlockSound per_block result }
     {
         BlockEntry {
             state: BlockState::Waiting,

@@ -1,7 +1,9 @@
+// The passes over all blocks: the first block in a state, and the full one with the fewest mapped pages.
 ghost use Rattle.std.specs.Prelude.{◌≡◌, ◌+◌, ◌<◌, ◌≤◌, length, MatchOption};
 ghost use Rattle.ff_base.specs.Geometry.{greatest_of};
 ghost use Rattle.ff_base.specs.declared.limits.LimitName.TheVariants.{Blocks};
-ghost use Rattle.ff_space.specs.Choices.{IsCollectable, IsInState, IsLeast, IsNone, IsVictim};
+ghost use Rattle.ff_space.specs.BlockTable.{IsInState};
+ghost use Rattle.ff_space.specs.Choices.{IsCollectable, IsLeast, IsVictimBlock, NoBlock};
 ghost use Rattle.ff_space.specs.Scanned.{FirstFound, IsTarget};
 ghost use Rattle.ff_space.specs.declared.block.BlockState.TheVariants.{Erased, Open};
 
@@ -22,7 +24,8 @@ pub enum Target {
 /// The least block in this state.
 pub fn least_in_state(blocks: &[BlockEntry], wanted: BlockState) -> Option<Block>
     requires { length blocks.now ≤ greatest_of Blocks }
-    ensures { MatchOption result (IsNone (IsInState blocks.now wanted)) (λ block. IsLeast (IsInState blocks.now wanted) block.0) }
+    ensures { MatchOption result (NoBlock (IsInState blocks.now wanted))
+        (λ block. IsLeast (IsInState blocks.now wanted) block.0) }
 {
     for (at, entry) in blocks.iter().enumerate() {
         if entry.state == wanted {
@@ -67,7 +70,8 @@ fn first_erased(blocks: &[BlockEntry], at: usize, before: Option<Block>) -> Opti
 /// The full block with the fewest mapped pages, and the least of these, where one has a page that isn't mapped.
 pub fn fewest_mapped(blocks: &[BlockEntry], per_block: u32) -> Option<Block>
     requires { length blocks.now ≤ greatest_of Blocks }
-    ensures { MatchOption result (IsNone (IsCollectable per_block blocks.now)) (λ block. IsVictim per_block blocks.now block.0) }
+    ensures { MatchOption result (NoBlock (IsCollectable per_block blocks.now))
+        (λ block. IsVictimBlock per_block blocks.now block.0) }
 {
     let mut found = None;
     let mut fewest = per_block;

@@ -1,3 +1,4 @@
+// The block table: the blocks by number, with the count of the erased ones beside them.
 ghost use Rattle.std.specs.Prelude.{◌≡◌, ◌≢◌, ◌<◌, ◌≤◌, IfOk, MatchOption, replicate, if◌then◌else◌};
 ghost use Rattle.ff_base.specs.Geometry.{IsWithinLimits};
 ghost use Rattle.ff_space.specs.Blocks.{CanAdvance, IsBlockSound, advanced, after_hold, block_placed, erased_block, mapped_less, mapped_more, taken_block, waiting};
@@ -29,13 +30,13 @@ pub struct BlockTable {
 }
 
 impl Model for BlockTable {
-    ghost use Rattle.ff_space.specs.Tables.{TableView};
+    ghost use Rattle.ff_space.specs.BlockTable.{TableView};
 
     ghost Value = { TableView };
 
-    ghost use Rattle.ff_space.specs.TableFields.{table_of, IsKept};
+    ghost use Rattle.ff_space.specs.BlockTableFields.{view_of, IsKept};
 
-    ghost view = { table_of };
+    ghost view = { view_of };
 
     ghost invariant = { IsKept };
 }
@@ -55,8 +56,8 @@ fn erased_blocks(alloc: Global, count: u32) -> Result<Vec<BlockEntry>, NoMemory>
 }
 
 impl BlockTable {
-    ghost use Rattle.ff_space.specs.Choices.{IsAllMapped, IsFreePlace, IsInState, IsLeast, IsNone, IsPlace, IsVictim};
-    ghost use Rattle.ff_space.specs.Tables.{IsInRange, IsSound, block_at, erased_count, new_table, with_block};
+    ghost use Rattle.ff_space.specs.BlockTable.{CanEnd, IsInRange, IsInState, IsTableSound, after_collection, block_at, changed_at, erased_count, new_table};
+    ghost use Rattle.ff_space.specs.Choices.{IsAllMapped, IsFreePlace, IsLeast, IsPlace, IsVictimBlock, NoBlock};
 
     /// A table of which every block is erased.
     pub fn new(alloc: Global, geometry: &Geometry) -> Result<BlockTable, NoMemory>
@@ -71,9 +72,9 @@ impl BlockTable {
         })
     }
 
-    /// What every table keeps, for a caller's proof. It does nothing.
+    /// What every table keeps. For the prover alone.
     pub fn known(&self)
-        ensures { IsSound self.now }
+        ensures { IsTableSound self.now }
     {
         let _ = &self.blocks;
     }
@@ -93,14 +94,14 @@ impl BlockTable {
     /// The block to collect: the full one with the fewest mapped pages, if one of its pages isn't mapped.
     pub fn victim(&self) -> Option<Block>
         ensures { MatchOption result (IsAllMapped self.now)
-            (λ block. IsVictim self.now.per_block self.now.blocks block.0) }
+            (λ block. IsVictimBlock self.now.per_block self.now.blocks block.0) }
     {
         fewest_mapped(&self.blocks, self.per_block)
     }
 
     /// The least erased block.
     pub fn least_erased(&self) -> Option<Block>
-        ensures { MatchOption result (IsNone (IsInState self.now.blocks Erased))
+        ensures { MatchOption result (NoBlock (IsInState self.now.blocks Erased))
             (λ block. IsLeast (IsInState self.now.blocks Erased) block.0) }
     {
         least_in_state(&self.blocks, BlockState::Erased)
@@ -113,20 +114,36 @@ impl BlockTable {
         self.erased
     }
 
-    /// Opens an erased block, at place 0.
+    /// How many pages of the block are mapped.
+    pub fn mapped(&self, block: Block) -> u32
+        requires { IsInRange self.now block.0 }
+        ensures { result ≡ (block_at self.now block.0).mapped }
+    {
+        self.entry(block).mapped
+    }
+
+    /// The write place of the block, counted in pages from the block's first: at most the pages of a block.
+    pub fn next(&self, block: Block) -> u32
+        requires { IsInRange self.now block.0 }
+        ensures { result ≡ (block_at self.now block.0).next }
+    {
+        self.entry(block).next
+    }
+
+    /// Opens an erased block, with its write place at its first page.
     pub fn take(&mut self, block: Block)
         requires in_range { IsInRange self.old block.0 }
         requires state { (block_at self.old block.0).state ≡ Erased }
-        ensures { self.new ≡ with_block self.old block.0 taken_block }
+        ensures { self.new ≡ changed_at self.old block.0 (λ _. taken_block) }
     {
         self.put(block, BlockEntry::taken(self.per_block));
     }
 
-    /// Moves the write place on: a page was programmed there. An open block without a place left becomes full.
+    /// Moves the write place on: a page was programmed there. An open block with no page left becomes full.
     pub fn advance(&mut self, block: Block)
         requires in_range { IsInRange self.old block.0 }
         requires can { CanAdvance self.old.per_block (block_at self.old block.0) }
-        ensures { self.new ≡ with_block self.old block.0 (advanced self.old.per_block (block_at self.old block.0)) }
+        ensures { self.new ≡ changed_at self.old block.0 (advanced self.old.per_block) }
     {
         let entry = self.entry(block).advanced(self.per_block);
         self.put(block, entry);
@@ -136,7 +153,7 @@ impl BlockTable {
     pub fn hold(&mut self, block: Block, on: bool)
         requires in_range { IsInRange self.old block.0 }
         requires state { (block_at self.old block.0).state ≡ (if on then Erased else Held) }
-        ensures { self.new ≡ with_block self.old block.0 (after_hold self.old.per_block (block_at self.old block.0) on) }
+        ensures { self.new ≡ changed_at self.old block.0 (after_hold self.old.per_block on) }
     {
         let entry = self.entry(block).after_hold(self.per_block, on);
         self.put(block, entry);
@@ -147,7 +164,7 @@ impl BlockTable {
         requires in_range { IsInRange self.old block.0 }
         requires used { (block_at self.old block.0).state ≢ Waiting }
         requires room { (block_at self.old block.0).mapped < (block_at self.old block.0).next }
-        ensures { self.new ≡ with_block self.old block.0 (mapped_more (block_at self.old block.0)) }
+        ensures { self.new ≡ changed_at self.old block.0 mapped_more }
     {
         let entry = self.entry(block).mapped_more();
         self.put(block, entry);
@@ -157,7 +174,7 @@ impl BlockTable {
     pub fn drop_mapped(&mut self, block: Block)
         requires in_range { IsInRange self.old block.0 }
         requires mapped { 0 < (block_at self.old block.0).mapped }
-        ensures { self.new ≡ with_block self.old block.0 (mapped_less (block_at self.old block.0)) }
+        ensures { self.new ≡ changed_at self.old block.0 mapped_less }
     {
         let entry = self.entry(block).mapped_less();
         self.put(block, entry);
@@ -167,17 +184,29 @@ impl BlockTable {
     pub fn wait_erase(&mut self, block: Block)
         requires in_range { IsInRange self.old block.0 }
         requires unmapped { (block_at self.old block.0).mapped ≡ 0 }
-        ensures { self.new ≡ with_block self.old block.0 (waiting (block_at self.old block.0)) }
+        ensures { self.new ≡ changed_at self.old block.0 waiting }
     {
         let entry = self.entry(block).waiting();
         self.put(block, entry);
+    }
+
+    /// Ends a collection: the victim's mapped pages are counted in the destination, which is held no more and becomes
+    /// erased, open or full by its write place. The victim waits to be erased, and none of its pages is mapped.
+    pub fn end_collection(&mut self, victim: Block, into: Block)
+        requires { CanEnd self.old victim.0 into.0 }
+        ensures { self.new ≡ after_collection self.old victim.0 into.0 }
+    {
+        let emptied = self.entry(victim);
+        let filled = self.entry(into).filled(self.per_block, emptied.mapped);
+        self.put(into, filled);
+        self.put(victim, emptied.emptied());
     }
 
     /// Records that a waiting block was erased.
     pub fn set_erased(&mut self, block: Block)
         requires in_range { IsInRange self.old block.0 }
         requires state { (block_at self.old block.0).state ≡ Waiting }
-        ensures { self.new ≡ with_block self.old block.0 erased_block }
+        ensures { self.new ≡ changed_at self.old block.0 (λ _. erased_block) }
     {
         self.put(block, BlockEntry::erased());
     }
@@ -187,7 +216,7 @@ impl BlockTable {
         requires in_range { IsInRange self.old block.0 }
         requires state { (block_at self.old block.0).state ≡ Erased }
         requires next { next ≤ self.old.per_block }
-        ensures { self.new ≡ with_block self.old block.0 (block_placed self.old.per_block next) }
+        ensures { self.new ≡ changed_at self.old block.0 (λ _. block_placed self.old.per_block next) }
     {
         self.put(block, BlockEntry::placed(self.per_block, next));
     }
@@ -213,7 +242,7 @@ impl BlockTable {
     fn put(&mut self, block: Block, entry: BlockEntry)
         requires in_range { IsInRange self.old block.0 }
         requires sound { IsBlockSound self.old.per_block entry }
-        ensures { self.new ≡ with_block self.old block.0 entry }
+        ensures { self.new ≡ changed_at self.old block.0 (λ _. entry) }
     {
         let at = block.0 as usize;
         let before = self.blocks[at];

@@ -1,3 +1,4 @@
+// The table's calls on small tables, and where the next page goes after each.
 ghost use Rattle.std.specs.Prelude.{◌≡◌, IfOk, replicate};
 ghost use Rattle.ff_space.specs.Blocks.{erased_block};
 

@@ -1,13 +1,10 @@
-// A library with one function.
+//! The flash store: a map of logical pages to their bytes, over a flash with faults and power cuts. A page is fetched,
+//! flushed and sealed, and space is collected, in steps of at most one flash operation.
 #![tactic(auto)]
 
-ghost use Rattle.std.specs.Prelude.{◌≡◌};
-ghost use Rattle.ff_store.specs.Echo.{echo_of};
+mod pending;
+mod store;
+mod writing;
 
-// The `ensures` clause is the contract: what `echo` returns is `echo_of` of its argument, a definition
-// in `specs/Echo.antt`, which a caller's clause can cite too.
-pub fn echo(x: usize) -> usize
-    ensures { result ≡ echo_of x }
-{
-    x
-}
+pub use pending::Pending;
+pub use store::{FlushStep, PageStore};

@@ -1,4 +1,4 @@
-use Rattle.ff_rrip.specs.Values.{IsOldestBelow}
+use Rattle.ff_rrip.specs.Oldest.{IsOldestBelow}
 use Rattle.ff_rrip.proofs.values.oldest.Given as goal
 
 abbrev pub invariant-loop-way : goal.invariant-loop-way

@@ -1,5 +1,5 @@
 use Rattle.std.proofs.Common.{◌≡◌, ◌<◌, ◌≤◌, ℕ, get_or}
-use Rattle.ff_rrip.specs.Values.{raised_value}
+use Rattle.ff_rrip.specs.Ways.{raised_value}
 use Rattle.ff_rrip.proofs.values.raise.Given as goal
 
 abbrev pub invariant-loop-way : goal.invariant-loop-way

@@ -1,5 +1,5 @@
 use Rattle.std.proofs.Common.{refl}
-use Rattle.ff_rrip.specs.Values.{IsVictim}
+use Rattle.ff_rrip.specs.Ways.{IsVictimWay}
 use Rattle.ff_rrip.proofs.Victims.{kept_after, oldest_victim}
 use Rattle.ff_rrip.proofs.values.victim.Goals as goal
 
@@ -8,5 +8,5 @@ returns-clause-found c = rw c.raise.ensures (oldest_victim c.args.allowed c.args
 
 pub returns-clause-kept : goal.returns-clause-kept
 returns-clause-kept c =
-    let found : IsVictim c.args.allowed c.args.values.now c.raise.new.values c.in_ok-way.way = returns-clause-found c in
+    let found : IsVictimWay c.args.allowed c.args.values.now c.raise.new.values c.in_ok-way.way = returns-clause-found c in
     kept_after c.args.allowed c.args.values.now c.raise.new.values c.in_ok-way.way c.requires found

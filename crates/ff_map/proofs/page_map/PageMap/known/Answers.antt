@@ -1,5 +1,5 @@
-use Rattle.ff_map.proofs.Inverse.{one_to_one}
+use Rattle.ff_map.proofs.Inverse.{sound_view}
 use Rattle.ff_map.proofs.page_map.PageMap.known.Goals as goal
 
 pub returns : goal.returns
-returns c = rw (← c.self.view_is) (one_to_one c.self.inside.pages.items c.self.inside.owners.items c.self.inside.next_version c.self.invariant)
+returns c = rw (← c.self.view_is) (sound_view _ _ c.self.inside.next_version c.self.invariant.inverse c.self.invariant.pages c.self.invariant.places)

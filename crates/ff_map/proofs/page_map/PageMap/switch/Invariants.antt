@@ -1,5 +1,5 @@
 use Rattle.std.proofs.Common.{take}
-use Rattle.ff_map.specs.MapView.{IsSwitched}
+use Rattle.ff_map.specs.PageMap.{IsSwitched}
 use Rattle.ff_map.proofs.page_map.PageMap.switch.Given as goal
 
 abbrev pub invariant-loop-one : goal.invariant-loop-one

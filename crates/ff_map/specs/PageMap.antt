@@ -1,6 +1,11 @@
--- What a contract sees of a map, and what a call changes of it.
-use Rattle.std.specs.Prelude.{ℕ, ◌*◌, ◌<◌, ◌≡◌, ◌≢◌, ◌==◌, if◌then◌else◌, List, [], ◌∷◌, length, replicate, slice_index_or, slice_set, Option, None, Some, option_map, All, AllPairs}
+-- What a contract sees of a map, what the map keeps, and what a call changes of it.
+use Rattle.std.specs.Prelude.{
+  ℕ, ◌+◌, ◌*◌, ◌<◌, ◌≡◌, ◌≢◌, ◌==◌, if◌then◌else◌, List, [], ◌∷◌, length, replicate, slice_index_or, slice_set,
+  Option, None, Some, option_map, All, AllPairs
+}
+use Rattle.ff_base.specs.Geometry.{IsAllowed}
 use Rattle.ff_base.specs.declared.geometry.Geometry.{Geometry}
+use Rattle.ff_base.specs.declared.limits.LimitName.TheVariants.{FlashPages, Pages}
 use Rattle.ff_base.specs.declared.numbers.PageNo.{PageNo}
 use Rattle.ff_base.specs.declared.numbers.Ppn.{Ppn}
 use Rattle.ff_map.specs.declared.places.Mapping.{Mapping}
@@ -33,13 +38,27 @@ pub record IsOneToOne (map : MapView) : Type 0 where
   pub apart : (at : Ppn) (one other : PageNo) → IsOwner map at one → IsOwner map at other → one ≡ other
   pub within : (at : Ppn) (page : PageNo) → IsOwner map at page → at.0 < map.places
 
+-- what a map keeps: it is one to one, and its sizes are those of a geometry
+pub record IsMapSound (map : MapView) : Type 0 where
+  pub one_to_one : IsOneToOne map
+  pub pages : IsAllowed Pages (length map.pages)
+  pub places : IsAllowed FlashPages map.places
+
 -- no page is mapped
 abbrev pub empty_map : Geometry → MapView
-empty_map geometry = record { pages = replicate geometry.pages None; places = geometry.blocks * geometry.per_block; next_version = 1 }
+empty_map geometry = record {
+  pages = replicate geometry.pages None;
+  places = geometry.blocks * geometry.per_block;
+  next_version = 1;
+}
 
 -- the map after a page got this mapping; the rest is unchanged
 abbrev pub with_mapping : MapView → PageNo → Mapping → MapView
 with_mapping map page mapping = record map { pages = slice_set map.pages page.0 (Some mapping) }
+
+-- the map after a version was drawn; the rest is unchanged
+abbrev pub drawn_map : MapView → MapView
+drawn_map map = record map { next_version = map.next_version + 1 }
 
 -- no page but this one is at the place
 abbrev pub IsFreeBut : MapView → Ppn → PageNo → Type 0
@@ -60,12 +79,14 @@ pub record CanSwitch (map : MapView) (moves : List Move) : Type 0 where
 
 -- the place of a mapping after a move of its page, which a mapping that is elsewhere ignores; the version stays
 abbrev pub moved_by : Move → Mapping → Mapping
-moved_by one mapping = if mapping.at.0 == one.from.0 then record mapping { at = one.to } else mapping
+moved_by one mapping =
+    if mapping.at.0 == one.from.0 then record mapping { at = one.to } else mapping
 
 -- what was a page's mapping, after the move of the page, if there is one
 abbrev pub moved : List Move → PageNo → Option Mapping → Option Mapping
 moved [] page old = old
-moved (one ∷ rest) page old = if one.page.0 == page.0 then option_map (moved_by one) old else moved rest page old
+moved (one ∷ rest) page old =
+    if one.page.0 == page.0 then option_map (moved_by one) old else moved rest page old
 
 -- every page's mapping is what the moves make of it, and the rest is unchanged
 pub record IsSwitched (moves : List Move) (old new : MapView) : Type 0 where
