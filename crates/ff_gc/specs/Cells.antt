@@ -4,7 +4,7 @@ use Rattle.ff_base.specs.declared.numbers.PageNo.{PageNo}
 use Rattle.ff_base.specs.declared.numbers.TheConstants.{PAGE_BYTES}
 use Rattle.ff_flash.specs.Cells.{Cell, sealed, bytes_of, cell_at}
 use Rattle.ff_flash.specs.declared.spare.Spare.{Spare}
-use Rattle.ff_map.specs.MapView.{MapView, mapping_of}
+use Rattle.ff_map.specs.PageMap.{MapView, mapping_of}
 use Rattle.ff_map.specs.declared.places.Mapping.{Mapping}
 
 -- equal versions of a page have equal bytes, a page's worth. Pages are in range, and versions are those of operations

@@ -12,7 +12,7 @@ use Rattle.ff_space.specs.BlockTable.{TableView, IsInState, block_at}
 use Rattle.ff_space.specs.Choices.{NoBlock}
 use Rattle.ff_space.specs.declared.block.BlockState.{BlockState}
 use Rattle.ff_space.specs.declared.block.BlockState.TheVariants.{Erased, Full, Held, Waiting}
-use Rattle.ff_map.specs.MapView.{MapView, mapping_of}
+use Rattle.ff_map.specs.PageMap.{MapView, mapping_of}
 use Rattle.ff_map.specs.declared.places.Mapping.{Mapping}
 use Rattle.ff_map.specs.declared.places.Move.{Move}
 use Rattle.ff_gc.specs.Collector.{CollectorView}

@@ -10,7 +10,7 @@ use Rattle.ff_space.specs.Blocks.{advanced, after_hold, erased_block, waiting}
 use Rattle.ff_space.specs.BlockTable.{TableView, IsInState, after_collection, block_at, changed_at}
 use Rattle.ff_space.specs.Choices.{IsAllMapped, IsLeast, IsVictimBlock}
 use Rattle.ff_space.specs.declared.block.BlockState.TheVariants.{Erased as ErasedBlock}
-use Rattle.ff_map.specs.MapView.{IsSwitched}
+use Rattle.ff_map.specs.PageMap.{IsSwitched}
 use Rattle.ff_gc.specs.Collector.{CollectorView}
 use Rattle.ff_gc.specs.Counts.{begun}
 use Rattle.ff_gc.specs.Originals.{IsAfter, IsAllSeen, IsNext, move_to, past, spare_in}

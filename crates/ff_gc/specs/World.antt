@@ -5,7 +5,7 @@ use Rattle.ff_base.specs.declared.numbers.PageNo.{PageNo}
 use Rattle.ff_flash.specs.Cells.{Cell, bytes_of, cell_at}
 use Rattle.ff_flash.specs.FlashState.{FlashState}
 use Rattle.ff_space.specs.BlockTable.{TableView}
-use Rattle.ff_map.specs.MapView.{MapView, mapping_of, version_of}
+use Rattle.ff_map.specs.PageMap.{MapView, mapping_of, version_of}
 use Rattle.ff_map.specs.declared.places.Mapping.{Mapping}
 use Rattle.ff_gc.specs.Cells.{IsSafe}
 use Rattle.ff_gc.specs.Collector.{CollectorView}

@@ -2,7 +2,7 @@
 ghost use Rattle.std.specs.Prelude.{◌≡◌, ◌<◌, ◌^◌, length};
 ghost use Rattle.ff_space.specs.BlockTable.{CanEnd, IsInState};
 ghost use Rattle.ff_space.specs.declared.block.BlockState.TheVariants.{Waiting};
-ghost use Rattle.ff_map.specs.MapView.{CanSwitch};
+ghost use Rattle.ff_map.specs.PageMap.{CanSwitch};
 ghost use Rattle.ff_gc.specs.Counts.{total_of};
 ghost use Rattle.ff_gc.specs.Steps.{Commits, ErasesBlock};
 ghost use Rattle.ff_gc.specs.World.{world_of};

@@ -1,6 +1,6 @@
 // Which page of the victim is copied next.
 ghost use Rattle.std.specs.Prelude.{◌≡◌, ◌+◌, ◌*◌, ◌<◌, ◌≤◌, ◌^◌, MatchOption};
-ghost use Rattle.ff_map.specs.MapView.{IsFree};
+ghost use Rattle.ff_map.specs.PageMap.{IsFree};
 ghost use Rattle.ff_gc.specs.Originals.{IsAfter, IsAllSeen, IsNext, IsThere, move_to, past, spare_in};
 
 use crate::phase::{Job, Original, Phase};

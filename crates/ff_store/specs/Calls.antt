@@ -14,7 +14,7 @@ use Rattle.ff_space.specs.BlockTable.{TableView, IsInState, block_at, changed_at
 use Rattle.ff_space.specs.Choices.{IsAllMapped, IsBlockToTake, IsLeast, IsNoPlace}
 use Rattle.ff_space.specs.declared.block.BlockEntry.{BlockEntry}
 use Rattle.ff_space.specs.declared.block.BlockState.TheVariants.{Open}
-use Rattle.ff_map.specs.MapView.{MapView, mapping_of, place_of, version_of, with_mapping}
+use Rattle.ff_map.specs.PageMap.{MapView, drawn_map, mapping_of, version_of, with_mapping}
 use Rattle.ff_map.specs.declared.places.Mapping.{Mapping}
 use Rattle.ff_gc.specs.Collector.{is_busy}
 use Rattle.ff_gc.specs.Steps.{IsStep, Makes, Takes, operation_of}
@@ -91,10 +91,6 @@ abbrev pub table_after_flush : TableView → ℕ → Result FlushStep FlashStop 
 table_after_flush table block (Err Off) = table
 table_after_flush table block _ =
     changed_at table block (λ entry. advanced table.per_block (opened_block entry))
-
--- the map after a version was drawn
-abbrev pub drawn_map : MapView → MapView
-drawn_map places = record places { next_version = places.next_version + 1 }
 
 -- a flush that was programmed
 abbrev pub pending_at : PageNo → Ppn → MapView → Pending

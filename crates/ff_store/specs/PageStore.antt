@@ -10,7 +10,7 @@ use Rattle.ff_flash.specs.FlashState.{FlashState}
 use Rattle.ff_flash.specs.declared.spare.Spare.{Spare}
 use Rattle.ff_space.specs.BlockTable.{block_at, new_table}
 use Rattle.ff_space.specs.declared.block.BlockState.TheVariants.{Full, Open}
-use Rattle.ff_map.specs.MapView.{empty_map}
+use Rattle.ff_map.specs.PageMap.{empty_map}
 use Rattle.ff_gc.specs.Cells.{AreMapped, IsSafe, Unmapped}
 use Rattle.ff_gc.specs.Collector.{is_busy, new_collector}
 use Rattle.ff_gc.specs.Counts.{no_counts, total_of}

@@ -6,7 +6,7 @@ ghost use Rattle.ff_flash.specs.Cells.{erased};
 ghost use Rattle.ff_flash.specs.FlashState.{powered_off, stop_of};
 ghost use Rattle.ff_flash.specs.declared.flash.FlashStop.TheVariants.{Failed, Off};
 ghost use Rattle.ff_space.specs.Choices.{IsNoPlace};
-ghost use Rattle.ff_map.specs.MapView.{mapping_of, place_of};
+ghost use Rattle.ff_map.specs.PageMap.{mapping_of, place_of};
 ghost use Rattle.ff_gc.specs.Collector.{is_busy};
 ghost use Rattle.ff_gc.specs.Steps.{IsStep};
 ghost use Rattle.ff_gc.specs.World.{mapped_bytes, page_bytes, world_of};

@@ -5,7 +5,7 @@ ghost use Rattle.ff_space.specs.Blocks.{advanced};
 ghost use Rattle.ff_space.specs.BlockTable.{block_at, changed_at};
 ghost use Rattle.ff_space.specs.Choices.{IsNoPlace};
 ghost use Rattle.ff_space.specs.declared.block.BlockState.TheVariants.{Erased, Open};
-ghost use Rattle.ff_map.specs.MapView.{mapping_of};
+ghost use Rattle.ff_map.specs.PageMap.{mapping_of};
 ghost use Rattle.ff_store.specs.Calls.{IsWritePlace, dropped, opened_block};
 
 use ff_base::{Block, PageNo, Ppn};
