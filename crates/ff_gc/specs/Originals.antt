@@ -28,6 +28,12 @@ abbrev pub IsAllSeen : ℕ → MapView → Job → Type 0
 IsAllSeen per_block places job = (page : PageNo) (m : Mapping) → mapping_of places page ≡ Some m
     → m.at.0 / per_block ≡ job.victim.0 → m.at.0 < job.victim.0 * per_block + job.seen
 
+-- no page is mapped in the victim from what is seen on to this place
+abbrev pub IsPassed : ℕ → MapView → Job → ℕ → Type 0
+IsPassed per_block places job place = (page : PageNo) (m : Mapping)
+    → mapping_of places page ≡ Some m → m.at.0 / per_block ≡ job.victim.0
+    → job.victim.0 * per_block + job.seen ≤ m.at.0 → job.victim.0 * per_block + place ≤ m.at.0
+
 -- the page is mapped at this place with its version
 pub record IsThere (places : MapView) (from : Ppn) (original : Original) : Type 0 where
   pub place : original.from ≡ from

@@ -125,13 +125,19 @@ abbrev pub collected : Result GcStep FlashStop → Result FlushStep FlashStop
 collected (Ok _) = Ok Collected
 collected (Err stop) = Err stop
 
+-- a flush makes a collection step
+pub record CollectsFor (old : PageStoreView) (result : Result FlushStep FlashStop)
+    (new : PageStoreView) : Type 0 where
+  pub step : Result GcStep FlashStop
+  pub collects : Collects true old step new
+  pub answer : result ≡ collected step
+
 -- one step of a flush
 pub data Flushes (old : PageStoreView) (page : PageNo) (bytes : List ℕ)
     (result : Result FlushStep FlashStop) (new : PageStoreView) : Type 0 where
   programs : (CollectsNow old → ⊥) → ProgramsPage old page bytes result new
     → Flushes old page bytes result new
-  collects : CollectsNow old → (step : Result GcStep FlashStop) → Collects true old step new
-    → result ≡ collected step → Flushes old page bytes result new
+  collects : CollectsNow old → CollectsFor old result new → Flushes old page bytes result new
 
 -- the page is to be sealed, with these bytes
 pub record IsProgrammed (s : PageStoreView) (page : PageNo) (bytes : List ℕ) : Type 0 where

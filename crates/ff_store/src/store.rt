@@ -1,24 +1,23 @@
 // The store and its calls.
-ghost use Rattle.std.specs.Prelude.{◌≡◌, ◌≢◌, ◌*◌, ◌+◌, ◌<◌, ◌≤◌, ◌^◌, ◌↔◌, ◌&&◌, true, false, length, replicate, IfOk, IfErr, IsTrue, MatchOption, MatchResult, None, Some, Ok, Err, is_some};
+ghost use Rattle.std.specs.Prelude.{◌≡◌, ◌≢◌, ◌*◌, ◌+◌, ◌<◌, ◌≤◌, ◌^◌, ◌↔◌, ◌&&◌, true, false, length, replicate, IfOk, IfErr, IfSome, IsTrue, MatchOption, MatchResult, if◌then◌else◌, None, Some, Ok, Err, is_some};
 ghost use Rattle.ff_base.specs.Geometry.{IsWithinLimits};
 ghost use Rattle.ff_base.specs.Page.{blank_page};
-ghost use Rattle.ff_flash.specs.Cells.{erased};
+ghost use Rattle.ff_flash.specs.Cells.{IsSealed, cell_at, erased};
 ghost use Rattle.ff_flash.specs.FlashState.{powered_off, stop_of};
 ghost use Rattle.ff_flash.specs.declared.flash.FlashStop.TheVariants.{Failed, Off};
-ghost use Rattle.ff_space.specs.Choices.{IsNoPlace};
-ghost use Rattle.ff_map.specs.PageMap.{mapping_of, place_of};
-ghost use Rattle.ff_gc.specs.Collector.{is_busy};
-ghost use Rattle.ff_gc.specs.Steps.{IsStep};
-ghost use Rattle.ff_gc.specs.World.{mapped_bytes, page_bytes, world_of};
-ghost use Rattle.ff_gc.specs.declared.collector.GcStep.TheVariants.{Idle as IdleStep};
-ghost use Rattle.ff_store.specs.Calls.{Collects, CollectsNow, Fetches, Flushes, IsCall, IsProgrammed, MatchSealed, ProgramsPage, SameBytes, SealsPage, WantsCollect, waiting_page};
+ghost use Rattle.ff_space.specs.BlockTable.{block_at, new_table};
+ghost use Rattle.ff_space.specs.declared.block.BlockState.TheVariants.{Erased, Open};
+ghost use Rattle.ff_map.specs.PageMap.{empty_map, place_of};
+ghost use Rattle.ff_gc.specs.Collector.{new_collector};
+ghost use Rattle.ff_gc.specs.World.{page_bytes};
+ghost use Rattle.ff_store.specs.Calls.{Collects, CollectsFor, CollectsNow, Fetches, Flushes, IsCall, IsProgrammed, IsWritePlace, MatchSealed, ProgramsPage, SameBytes, SealsPage, WantsCollect, waiting_page};
 ghost use Rattle.ff_store.specs.Left.{left_of};
 ghost use Rattle.ff_store.specs.PageStore.{IsStoreSound, new_store};
 ghost use Rattle.ff_store.specs.Pages.{capacity_of, is_mapped, mapped_with};
 ghost use Rattle.ff_store.specs.declared.store.FlushStep.TheVariants.{Collected, Programmed};
 
 use crate::pending::Pending;
-use crate::writing::{drop_old, use_place, write_place};
+use crate::writing::{WritePlace, drop_old, use_place, write_place};
 use ff_base::{Block, Geometry, NoMemory, PageBuf, PageNo, Ppn};
 use ff_flash::{Flash, FlashStop, Spare};
 use ff_gc::{Collector, Counts, GcStep, Operation};
@@ -66,6 +65,7 @@ impl<F: Flash> Model for PageStore<F> {
     ghost invariant = { λ s. IsKept (record { world = world_of s.collector (F.state s.flash) s.space s.places s.counts; waits = s.waits; owed = s.owed; low = s.low; opened = s.opened }) s.per_block };
 }
 
+#[derive(Drop)]
 struct Parts {
     collector: Collector,
     space: BlockTable,
@@ -200,6 +200,84 @@ impl<F: Flash> PageStore<F> {
         self.powered_flush(page, from)
     }
 
+    fn powered_flush(&mut self, page: PageNo, from: &PageBuf) -> Result<FlushStep, FlashStop>
+        requires life { self.old.world.flash.operations < 2 ^ 63 }
+        requires on { self.old.world.flash.on ≡ true }
+        requires none { self.old.waits ≡ None }
+        requires page { page.0 < length self.old.world.places.pages }
+        requires room { mapped_with self.old.world.places page ≤ capacity_of self.old.world }
+        ensures { Flushes self.old page from.now result self.new }
+    {
+        if self.owed {
+            return self.collect_for_flush();
+        }
+        match write_place(&self.space, self.per_block) {
+            Some(place) => self.program(page, from, place),
+            None => self.collect_for_flush(),
+        }
+    }
+
+    fn collect_for_flush(&mut self) -> Result<FlushStep, FlashStop>
+        requires life { self.old.world.flash.operations < 2 ^ 63 }
+        requires on { self.old.world.flash.on ≡ true }
+        requires none { self.old.waits ≡ None }
+        requires now { CollectsNow self.old }
+        ensures { CollectsFor self.old result self.new }
+    {
+        match self.collect(true) {
+            Ok(_) => Ok(FlushStep::Collected),
+            Err(stop) => Err(stop),
+        }
+    }
+
+    // Makes one step of the collector. Where it is owed the next one is, until the collection ends.
+    fn collect(&mut self, owed: bool) -> Result<GcStep, FlashStop>
+        requires life { self.old.world.flash.operations < 2 ^ 63 }
+        requires on { self.old.world.flash.on ≡ true }
+        requires none { self.old.waits ≡ None }
+        ensures { Collects owed self.old result self.new }
+    {
+        let result = self.collector.step(
+            &mut self.flash,
+            &mut self.space,
+            &mut self.places,
+            &mut self.counts,
+        );
+        self.owed = owed && self.collector.busy();
+        result
+    }
+
+    // Programs a page, with the next version.
+    fn program(&mut self, page: PageNo, from: &PageBuf, place: WritePlace) -> Result<FlushStep, FlashStop>
+        requires life { self.old.world.flash.operations < 2 ^ 63 }
+        requires on { self.old.world.flash.on ≡ true }
+        requires none { self.old.waits ≡ None }
+        requires page { page.0 < length self.old.world.places.pages }
+        requires room { mapped_with self.old.world.places page ≤ capacity_of self.old.world }
+        requires place { IsWritePlace self.old.world.table place.block.0 place.at.0 }
+        requires state { (block_at self.old.world.table place.block.0).state ≡ (if place.erased then Erased else Open) }
+        ensures { ProgramsPage self.old page from.now result self.new }
+    {
+        let version = self.places.draw_version();
+        self.counts.begin(Operation::Program);
+        match self.flash.program(place.at, from, Spare { page, version }) {
+            Ok(()) => {
+                use_place(&mut self.space, place);
+                self.waits = Some(Pending {
+                    page,
+                    at: place.at,
+                    version,
+                });
+                Ok(FlushStep::Programmed)
+            }
+            Err(FlashStop::Failed) => {
+                use_place(&mut self.space, place);
+                Err(FlashStop::Failed)
+            }
+            Err(FlashStop::Off) => Err(FlashStop::Off),
+        }
+    }
+
     /// Seals the page that waits: it is stored with the programmed bytes then. `Failed` ends the flush, and the page
     /// keeps its old bytes.
     pub fn seal_step(&mut self) -> Result<FlushStep, FlashStop>
@@ -217,6 +295,29 @@ impl<F: Flash> PageStore<F> {
         match self.waits {
             Some(pending) => self.seal(pending),
             None => unreachable!(),
+        }
+    }
+
+    fn seal(&mut self, pending: Pending) -> Result<FlushStep, FlashStop>
+        requires life { self.old.world.flash.operations < 2 ^ 63 }
+        requires on { self.old.world.flash.on ≡ true }
+        requires waits { self.old.waits ≡ Some pending }
+        ensures { SealsPage self.old pending result self.new }
+    {
+        self.counts.begin(Operation::Seal);
+        match self.flash.seal(pending.at) {
+            Ok(()) => {
+                drop_old(&mut self.space, &self.places, self.per_block, pending.page);
+                self.space.add_mapped(Block(pending.at.0 / self.per_block));
+                self.places.set(pending.page, pending.at, pending.version);
+                self.waits = None;
+                Ok(FlushStep::Sealed(pending.page))
+            }
+            Err(FlashStop::Failed) => {
+                self.waits = None;
+                Err(FlashStop::Failed)
+            }
+            Err(FlashStop::Off) => Err(FlashStop::Off),
         }
     }
 
