@@ -1,6 +1,8 @@
-pub mod BlockCells
-pub mod CellLists
-pub mod NextTurn
-pub mod Operations
+pub mod NextInjected
+pub mod Operated
+pub mod OperationCells
 pub mod PageSlots
 pub mod Rising
+pub mod SealedCells
+pub mod SimCells
+pub mod SimOperations

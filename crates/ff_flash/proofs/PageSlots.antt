@@ -6,8 +6,7 @@ use Rattle.std.proofs.lemmas.List.{length-append, length-take, length-drop, leng
 use Rattle.std.proofs.lemmas.List.Sums.{sum_by-set, sum_by-cons}
 use Rattle.std.proofs.lemmas.Slice.{drop-append-drop}
 use Rattle.std.proofs.Math.Seq.{drop-append_seam}
-use Rattle.ff_flash.specs.Pages.{held_page, held_pages, page_in}
-use Rattle.ff_flash.specs.StoreFields.{AreSlots, HasSlot, free_count}
+use Rattle.ff_flash.specs.PageArena.{AreSlots, HasSlot, free_count, page_in, slot_page, slot_pages}
 
 -- a part of the bytes, from a place on
 abbrev part : List ℕ → ℕ → ℕ → List ℕ
@@ -53,28 +52,28 @@ part-after bytes page from end at size ends within after =
     ap (λ (l : List ℕ). take size l) (drop-append-drop end bytes (take from bytes ++ page) at after (omega arith))
 
 -- two readings of the slots agree at a slot in use but one
-same_held : (old new : List ℕ) (slot : Option ℕ) → ((s : ℕ) → slot ≡ Some s → page_in new s ≡ page_in old s) → held_page new slot ≡ held_page old slot
+same_held : (old new : List ℕ) (slot : Option ℕ) → ((s : ℕ) → slot ≡ Some s → page_in new s ≡ page_in old s) → slot_page new slot ≡ slot_page old slot
 same_held old new None same = refl
 same_held old new (Some s) same = same s refl
 
 -- a page written over that of a place leaves those of the others
 pub overwritten : (bytes page : List ℕ) (slots : List (Option ℕ)) (used place slot : ℕ) → AreSlots slots used → HasSlot slots place slot → length bytes ≡ 4096 * used → length page ≡ 4096
-    → held_pages (take (4096 * slot) bytes ++ page ++ drop (4096 * slot + 4096) bytes) slots ≡ set (held_pages bytes slots) place page
+    → slot_pages (take (4096 * slot) bytes ++ page ++ drop (4096 * slot + 4096) bytes) slots ≡ set (slot_pages bytes slots) place page
 overwritten bytes page slots used place slot are has filled size =
     let new : List ℕ = written bytes (4096 * slot) page (4096 * slot + 4096) in
     let below : slot < used = are.each place slot has in
-    let old_size = length-map slots (λ s. held_page bytes s) in
-    let new_size = length-map slots (λ s. held_page new s) in
-    let set_size = length-set (held_pages bytes slots) place page in
-    same_lists (held_pages new slots) (set (held_pages bytes slots) place page) (omega arith) (λ k d within.
+    let old_size = length-map slots (λ s. slot_page bytes s) in
+    let new_size = length-map slots (λ s. slot_page new s) in
+    let set_size = length-set (slot_pages bytes slots) place page in
+    same_lists (slot_pages new slots) (set (slot_pages bytes slots) place page) (omega arith) (λ k d within.
     let inside : k < length slots = omega arith in
-    let read : get_or (held_pages new slots) k d ≡ held_page new (get_or slots k None) = get_or-map (λ s. held_page new s) slots k None d inside in
-    let read_old : get_or (held_pages bytes slots) k d ≡ held_page bytes (get_or slots k None) = get_or-map (λ s. held_page bytes s) slots k None d inside in
+    let read : get_or (slot_pages new slots) k d ≡ slot_page new (get_or slots k None) = get_or-map (λ s. slot_page new s) slots k None d inside in
+    let read_old : get_or (slot_pages bytes slots) k d ≡ slot_page bytes (get_or slots k None) = get_or-map (λ s. slot_page bytes s) slots k None d inside in
     elim (cases_eq k place) [
       | inl here ↦
-          let is : held_page new (get_or slots k None) ≡ page = ap (λ (n : ℕ). held_page new (get_or slots n None)) here ∙ ap (λ (s : Option ℕ). held_page new s) has ∙ part-written bytes page (4096 * slot) (4096 * slot + 4096) 4096 (omega arith) (omega arith) (omega arith) in
-          let there : place < length (held_pages bytes slots) = omega arith in
-          let wrote : get_or (set (held_pages bytes slots) place page) k d ≡ page = ap (λ (n : ℕ). get_or (set (held_pages bytes slots) place page) n d) here ∙ get_or-set_same (held_pages bytes slots) place page d there in
+          let is : slot_page new (get_or slots k None) ≡ page = ap (λ (n : ℕ). slot_page new (get_or slots n None)) here ∙ ap (λ (s : Option ℕ). slot_page new s) has ∙ part-written bytes page (4096 * slot) (4096 * slot + 4096) 4096 (omega arith) (omega arith) (omega arith) in
+          let there : place < length (slot_pages bytes slots) = omega arith in
+          let wrote : get_or (set (slot_pages bytes slots) place page) k d ≡ page = ap (λ (n : ℕ). get_or (set (slot_pages bytes slots) place page) n d) here ∙ get_or-set_same (slot_pages bytes slots) place page d there in
           read ∙ is ∙ sym wrote
       | inr other ↦
           let kept = same_held bytes new (get_or slots k None) (λ s at.
@@ -86,37 +85,37 @@ overwritten bytes page slots used place slot are has filled size =
               | inr differs ↦ part-after bytes page (4096 * slot) (4096 * slot + 4096) (4096 * s) 4096 (omega arith) (omega arith) (omega arith)
             ]
           ]) in
-          read ∙ kept ∙ sym read_old ∙ sym (get_or-set_other (held_pages bytes slots) place k page d other)
+          read ∙ kept ∙ sym read_old ∙ sym (get_or-set_other (slot_pages bytes slots) place k page d other)
     ])
 
 -- a page appended for a place that had none leaves those of the others
 pub appended : (bytes page : List ℕ) (slots : List (Option ℕ)) (used place : ℕ) → AreSlots slots used → place < length slots → length bytes ≡ 4096 * used → length page ≡ 4096
-    → held_pages (bytes ++ page) (set slots place (Some used)) ≡ set (held_pages bytes slots) place page
+    → slot_pages (bytes ++ page) (set slots place (Some used)) ≡ set (slot_pages bytes slots) place page
 appended bytes page slots used place are lies filled size =
     let new : List ℕ = bytes ++ page in
     let new_slots : List (Option ℕ) = set slots place (Some used) in
     let slots_size = length-set slots place (Some used) in
-    let old_size = length-map slots (λ s. held_page bytes s) in
-    let new_size = length-map new_slots (λ s. held_page new s) in
-    let set_size = length-set (held_pages bytes slots) place page in
-    same_lists (held_pages new new_slots) (set (held_pages bytes slots) place page) (omega arith) (λ k d within.
+    let old_size = length-map slots (λ s. slot_page bytes s) in
+    let new_size = length-map new_slots (λ s. slot_page new s) in
+    let set_size = length-set (slot_pages bytes slots) place page in
+    same_lists (slot_pages new new_slots) (set (slot_pages bytes slots) place page) (omega arith) (λ k d within.
     let inside_new : k < length new_slots = omega arith in
     let inside : k < length slots = omega arith in
-    let read : get_or (held_pages new new_slots) k d ≡ held_page new (get_or new_slots k None) = get_or-map (λ s. held_page new s) new_slots k None d inside_new in
-    let read_old : get_or (held_pages bytes slots) k d ≡ held_page bytes (get_or slots k None) = get_or-map (λ s. held_page bytes s) slots k None d inside in
+    let read : get_or (slot_pages new new_slots) k d ≡ slot_page new (get_or new_slots k None) = get_or-map (λ s. slot_page new s) new_slots k None d inside_new in
+    let read_old : get_or (slot_pages bytes slots) k d ≡ slot_page bytes (get_or slots k None) = get_or-map (λ s. slot_page bytes s) slots k None d inside in
     elim (cases_eq k place) [
       | inl here ↦
           let slot : get_or new_slots k None ≡ Some used = ap (λ (n : ℕ). get_or new_slots n None) here ∙ get_or-set_same slots place (Some used) None lies in
-          let is : held_page new (get_or new_slots k None) ≡ page = ap (λ (s : Option ℕ). held_page new s) slot ∙ part-seam bytes page (4096 * used) 4096 (sym filled) (sym size) in
-          let there : place < length (held_pages bytes slots) = omega arith in
-          let wrote : get_or (set (held_pages bytes slots) place page) k d ≡ page = ap (λ (n : ℕ). get_or (set (held_pages bytes slots) place page) n d) here ∙ get_or-set_same (held_pages bytes slots) place page d there in
+          let is : slot_page new (get_or new_slots k None) ≡ page = ap (λ (s : Option ℕ). slot_page new s) slot ∙ part-seam bytes page (4096 * used) 4096 (sym filled) (sym size) in
+          let there : place < length (slot_pages bytes slots) = omega arith in
+          let wrote : get_or (set (slot_pages bytes slots) place page) k d ≡ page = ap (λ (n : ℕ). get_or (set (slot_pages bytes slots) place page) n d) here ∙ get_or-set_same (slot_pages bytes slots) place page d there in
           read ∙ is ∙ sym wrote
       | inr other ↦
           let slot : get_or new_slots k None ≡ get_or slots k None = get_or-set_other slots place k (Some used) None other in
           let kept = same_held bytes new (get_or slots k None) (λ s at.
           let in_use : s < used = are.each k s at in
           part-append bytes page (4096 * s) 4096 (omega arith)) in
-          read ∙ ap (λ (s : Option ℕ). held_page new s) slot ∙ kept ∙ sym read_old ∙ sym (get_or-set_other (held_pages bytes slots) place k page d other)
+          read ∙ ap (λ (s : Option ℕ). slot_page new s) slot ∙ kept ∙ sym read_old ∙ sym (get_or-set_other (slot_pages bytes slots) place k page d other)
     ])
 
 -- one place that had no page fewer is free
@@ -189,10 +188,10 @@ pub slot_at : (slots : List (Option ℕ)) (place : ℕ) (o r : Option ℕ) → p
 slot_at slots place o r lies is reads = get_or_default slots place None o lies ∙ sym is ∙ reads
 
 -- a place of the pages is one of the slots
-pub lies_within : (bytes : List ℕ) (slots : List (Option ℕ)) (place : ℕ) → place < length (held_pages bytes slots) → place < length slots
-lies_within bytes slots place lies = let size = length-map slots (λ s. held_page bytes s) in omega arith
+pub lies_within : (bytes : List ℕ) (slots : List (Option ℕ)) (place : ℕ) → place < length (slot_pages bytes slots) → place < length slots
+lies_within bytes slots place lies = let size = length-map slots (λ s. slot_page bytes s) in omega arith
 
 -- and no bytes
-pub bare_pages : (bytes : List ℕ) (places : ℕ) → held_pages bytes (replicate places None) ≡ replicate places []
+pub bare_pages : (bytes : List ℕ) (places : ℕ) → slot_pages bytes (replicate places None) ≡ replicate places []
 bare_pages bytes zero = refl
 bare_pages bytes (suc places) = ap (λ (l : List (List ℕ)). [] ∷ l) (bare_pages bytes places)

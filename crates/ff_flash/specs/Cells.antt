@@ -1,10 +1,13 @@
 -- The cells of a flash, a list by their places, and what each operation makes of them.
-use Rattle.std.specs.Prelude.{ℕ, ◌/◌, ◌%◌, ◌^◌, ◌<◌, ◌≡◌, ◌==◌, ◌&&◌, Bool, if◌then◌else◌, List, [], length, slice_index_or, slice_set, Result, Ok, Err}
+use Rattle.std.specs.Prelude.{ℕ, ◌/◌, ◌%◌, ◌<◌, ◌≡◌, ◌==◌, if◌then◌else◌, List, [], length, slice_index_or, slice_set, Result, Ok, Err}
+use Rattle.std.specs.Int.{bit_at}
+use Rattle.ff_flash.specs.Injected.{Went}
 use Rattle.ff_flash.specs.declared.spare.Spare.{Spare}
 use Rattle.ff_flash.specs.declared.flash.Probe.{Probe}
 use Rattle.ff_flash.specs.declared.flash.Probe.TheVariants.{Erased, Spoiled, Closed, Sealed}
 use Rattle.ff_flash.specs.declared.flash.FlashStop.{FlashStop}
-use Rattle.ff_flash.specs.declared.flash.FlashStop.TheVariants.{Failed, Off}
+use Rattle.ff_flash.specs.declared.injected.Injected.{Injected}
+use Rattle.ff_flash.specs.declared.injected.Injected.TheVariants.{Nothing, Failure, Cut, PowerOff}
 
 -- what a page of the flash holds
 pub data Cell : Type 0 where
@@ -27,49 +30,61 @@ abbrev pub IsSealed : Cell → Type 0
 IsSealed (sealed bytes spare) = Unit {0}
 IsSealed _ = ⊥
 
+-- the page is erased, spoiled or closed
+abbrev pub IsUnsealed : Cell → Type 0
+IsUnsealed (sealed bytes spare) = ⊥
+IsUnsealed _ = Unit {0}
+
 -- the bytes of a programmed page
-abbrev pub bytes_of : Cell → List ℕ
-bytes_of (closed bytes spare) = bytes
-bytes_of (sealed bytes spare) = bytes
-bytes_of _ = []
+abbrev pub cell_bytes : Cell → List ℕ
+cell_bytes (closed bytes spare) = bytes
+cell_bytes (sealed bytes spare) = bytes
+cell_bytes _ = []
 
 -- what a probe tells of a cell
-abbrev pub probe_of : Cell → Probe
-probe_of erased = Erased
-probe_of spoiled = Spoiled
-probe_of (closed bytes spare) = Closed
-probe_of (sealed bytes spare) = Sealed spare
+abbrev pub cell_probe : Cell → Probe
+cell_probe erased = Erased
+cell_probe spoiled = Spoiled
+cell_probe (closed bytes spare) = Closed
+cell_probe (sealed bytes spare) = Sealed spare
 
--- a programmed page, sealed with the same bytes and spare
-abbrev pub sealed_of : Cell → Cell
-sealed_of (closed bytes spare) = sealed bytes spare
-sealed_of cell = cell
+-- a closed page's cell, sealed with the same bytes and spare
+abbrev pub sealed_cell : Cell → Cell
+sealed_cell (closed bytes spare) = sealed bytes spare
+sealed_cell cell = cell
 
--- a bit of a mask is 1. An operation that is cut is half done by a mask, of which it looks at the bits 0 to 31
-abbrev pub has_bit : ℕ → ℕ → Bool
-has_bit mask bit = mask / 2 ^ bit % 2 == 1
+-- an operation that may change a page: a program of these bytes and this spare, a seal, or an erase of the block
+-- of which it is the page of this number
+pub data Operation : Type 0 where
+  program : List ℕ → Spare → Operation
+  seal : Operation
+  erase : ℕ → Operation
 
--- the cells after a program that was cut with a mask: the page is spoiled where bit 0 is 1, else as before
-abbrev pub cut_program : ℕ → List Cell → ℕ → List Cell
-cut_program mask cells at = if has_bit mask 0 then slice_set cells at spoiled else cells
+-- what an operation makes of a page's cell, by how it goes. One that is cut is half done by a mask, of which a
+-- program and a seal look at bit 0, and an erase at the bit of the page's number modulo 32
+abbrev pub cell_after : Operation → Injected → Cell → Cell
+cell_after (program bytes spare) Nothing cell = closed bytes spare
+cell_after (program bytes spare) Failure cell = spoiled
+cell_after (program bytes spare) (Cut mask) cell = if bit_at mask 0 == 1 then spoiled else cell
+cell_after (program bytes spare) PowerOff cell = cell
+cell_after seal Nothing cell = sealed_cell cell
+cell_after seal Failure cell = cell
+cell_after seal (Cut mask) cell = if bit_at mask 0 == 1 then sealed_cell cell else cell
+cell_after seal PowerOff cell = cell
+cell_after (erase page) Nothing cell = erased
+cell_after (erase page) Failure cell = cell
+cell_after (erase page) (Cut mask) cell = if bit_at mask (page % 32) == 1 then spoiled else cell
+cell_after (erase page) PowerOff cell = cell
 
--- the cells with the page at a place sealed
-abbrev pub seal_at : List Cell → ℕ → List Cell
-seal_at cells at = slice_set cells at (sealed_of (cell_at cells at))
+-- the cells after an operation on the page at a place, by how it goes
+abbrev pub cells_after : Operation → Injected → List Cell → ℕ → List Cell
+cells_after operation injected cells at =
+    slice_set cells at (cell_after operation injected (cell_at cells at))
 
--- the cells after a seal that was cut with a mask: the page is sealed where bit 0 is 1, else as before
-abbrev pub cut_seal : ℕ → List Cell → ℕ → List Cell
-cut_seal mask cells at = if has_bit mask 0 then seal_at cells at else cells
-
--- the cell at a place after its block, or another, was erased
-abbrev pub erased_cell : ℕ → ℕ → ℕ → Cell → Cell
-erased_cell per_block block place cell = if place / per_block == block then erased else cell
-
--- the cell at a place after the erase of its block, or of another, was cut with a mask: page i of the block is
--- spoiled where bit i mod 32 is 1, else as before
-abbrev pub cut_erased_cell : ℕ → ℕ → ℕ → ℕ → Cell → Cell
-cut_erased_cell mask per_block block place cell =
-    if place / per_block == block && has_bit mask (place % per_block % 32) then spoiled else cell
+-- the cell at a place after an erase of its block, or of another, by how it goes
+abbrev pub cell_after_erase : ℕ → ℕ → Injected → ℕ → Cell → Cell
+cell_after_erase per_block block injected place cell =
+    if place / per_block == block then cell_after (erase (place % per_block)) injected cell else cell
 
 -- each cell becomes what the change makes of it at its place
 pub record ChangesEach (change : ℕ → Cell → Cell) (old new : List Cell) : Type 0 where
@@ -78,28 +93,25 @@ pub record ChangesEach (change : ℕ → Cell → Cell) (old new : List Cell) : 
 
 -- a probe tells of its cell; no cell changes
 abbrev pub Probes : List Cell → ℕ → Result Probe FlashStop → List Cell → Type 0
-Probes old at (Ok probe) new = (probe ≡ probe_of (cell_at old at)) × (new ≡ old)
+Probes old at (Ok probe) new = (probe ≡ cell_probe (cell_at old at)) × (new ≡ old)
 Probes old at (Err _) new = new ≡ old
 
 -- a read gives its cell's bytes in place of those before, or leaves these; no cell changes
-abbrev pub Reads : List Cell → ℕ → List ℕ → Result (Unit {0}) FlashStop → List ℕ → List Cell → Type 0
-Reads old at before (Ok _) after new = (after ≡ bytes_of (cell_at old at)) × (new ≡ old)
-Reads old at before (Err _) after new = (after ≡ before) × (new ≡ old)
+abbrev pub ReadsBytes : List Cell → ℕ → List ℕ → Result (Unit {0}) FlashStop → List ℕ → List Cell
+    → Type 0
+ReadsBytes old at before (Ok _) after new = (after ≡ cell_bytes (cell_at old at)) × (new ≡ old)
+ReadsBytes old at before (Err _) after new = (after ≡ before) × (new ≡ old)
 
 -- a program of an erased page
 abbrev pub Programs : List Cell → ℕ → List ℕ → Spare → Result (Unit {0}) FlashStop → List Cell → Type 0
-Programs old at bytes spare (Ok _) new = new ≡ slice_set old at (closed bytes spare)
-Programs old at bytes spare (Err Failed) new = new ≡ slice_set old at spoiled
-Programs old at bytes spare (Err Off) new = (mask : ℕ) × (new ≡ cut_program mask old at)
+Programs old at bytes spare result new =
+    Went result (λ injected. new ≡ cells_after (program bytes spare) injected old at)
 
 -- a seal of a closed page
 abbrev pub Seals : List Cell → ℕ → Result (Unit {0}) FlashStop → List Cell → Type 0
-Seals old at (Ok _) new = new ≡ seal_at old at
-Seals old at (Err Failed) new = new ≡ old
-Seals old at (Err Off) new = (mask : ℕ) × (new ≡ cut_seal mask old at)
+Seals old at result new = Went result (λ injected. new ≡ cells_after seal injected old at)
 
 -- an erase of a block
 abbrev pub Erases : ℕ → List Cell → ℕ → Result (Unit {0}) FlashStop → List Cell → Type 0
-Erases per_block old block (Ok _) new = ChangesEach (erased_cell per_block block) old new
-Erases per_block old block (Err Failed) new = new ≡ old
-Erases per_block old block (Err Off) new = (mask : ℕ) × ChangesEach (cut_erased_cell mask per_block block) old new
+Erases per_block old block result new =
+    Went result (λ injected. ChangesEach (cell_after_erase per_block block injected) old new)

@@ -1,8 +1,10 @@
 -- Plans: at which operations a flash fails, and at which the power is cut.
-use Rattle.std.specs.Prelude.{ℕ, ◌+◌, ◌≤◌, ◌≡◌, ◌==◌, Bool, true, if◌then◌else◌, nat_le, List, [], ◌∷◌, map, count_by, Option, Some, None, is_some}
+use Rattle.std.specs.Prelude.{ℕ, ◌+◌, ◌≤◌, ◌≡◌, ◌==◌, Bool, true, if◌then◌else◌, nat_le, List, [], ◌∷◌, map, count_by, Option, Some, None}
 use Rattle.std.specs.List.{list_any}
 use Rattle.ff_flash.specs.declared.flash.FlashStop.{FlashStop}
-use Rattle.ff_flash.specs.declared.flash.FlashStop.TheVariants.{Failed, Off}
+use Rattle.ff_flash.specs.Injected.{answer_of, stop_of}
+use Rattle.ff_flash.specs.declared.injected.Injected.{Injected}
+use Rattle.ff_flash.specs.declared.injected.Injected.TheVariants.{Nothing, Failure, Cut}
 use Rattle.ff_flash.specs.declared.plan.CutAt.{CutAt}
 use Rattle.ff_flash.specs.declared.plan.Plan.{Plan}
 
@@ -32,10 +34,19 @@ abbrev pub cut_at : ℕ → List CutAt → Option CutAt
 cut_at number [] = None
 cut_at number (cut ∷ cuts) = if cut.at == number then Some cut else cut_at number cuts
 
+-- how an operation goes that has this cut, or none
+abbrev pub cut_injected : Option CutAt → Injected
+cut_injected (Some cut) = Cut cut.mask
+cut_injected None = Nothing
+
+-- how the operation of a number goes
+abbrev pub due_injected : Planned → ℕ → Injected
+due_injected plan number =
+    if is_listed number plan.fail then Failure else cut_injected (cut_at number plan.cuts)
+
 -- how the operation of a number stops, if it does
 abbrev pub due_stop : Planned → ℕ → Option FlashStop
-due_stop plan number =
-    if is_listed number plan.fail then Some Failed else (if is_some (cut_at number plan.cuts) then Some Off else None)
+due_stop plan number = stop_of (answer_of (due_injected plan number))
 
 -- how many of the operations up to a number are listed
 abbrev pub listed_count : ℕ → List ℕ → ℕ

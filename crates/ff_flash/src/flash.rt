@@ -1,6 +1,8 @@
-ghost use Rattle.std.specs.Prelude.{◌≡◌, ◌<◌, ◌^◌, ◌≤◌, length};
-ghost use Rattle.ff_flash.specs.Cells.{Erases, IsClosed, IsSealed, Probes, Programs, Reads, Seals, cell_at, erased};
-ghost use Rattle.ff_flash.specs.FlashState.{FlashState, IsSound, Operates, powered_off, powered_up, stop_of};
+// The trait of a flash: operations on pages and blocks, which may fail or be cut off with the power.
+ghost use Rattle.std.specs.Prelude.{◌≡◌, ◌<◌, length};
+ghost use Rattle.ff_flash.specs.Cells.{Erases, IsClosed, IsSealed, Probes, Programs, ReadsBytes, Seals, cell_at, erased};
+ghost use Rattle.ff_flash.specs.FlashState.{FlashState, HasOperationsLeft, IsFlashSound, Operates, powered_off, powered_up};
+ghost use Rattle.ff_flash.specs.Injected.{stop_of};
 
 use crate::Spare;
 use ff_base::{Block, PageBuf, Ppn};
@@ -35,7 +37,7 @@ pub trait Flash {
     /// Tells the state of a page, and the spare of a sealed one.
     fn probe(&mut self, at: Ppn) -> Result<Probe, FlashStop>
         requires place { at.0 < length (state self.old).cells }
-        requires life { (state self.old).operations < 2 ^ 63 }
+        requires life { HasOperationsLeft (state self.old) }
         ensures cells { Probes (state self.old).cells at.0 result (state self.new).cells }
         ensures counts { Operates (state self.old) (stop_of result) (state self.new) };
 
@@ -43,31 +45,34 @@ pub trait Flash {
     fn read(&mut self, at: Ppn, into: &mut PageBuf) -> Result<(), FlashStop>
         requires place { at.0 < length (state self.old).cells }
         requires sealed { IsSealed (cell_at (state self.old).cells at.0) }
-        requires life { (state self.old).operations < 2 ^ 63 }
-        ensures cells { Reads (state self.old).cells at.0 into.old result into.new (state self.new).cells }
+        requires life { HasOperationsLeft (state self.old) }
+        ensures cells { ReadsBytes (state self.old).cells at.0 into.old result into.new
+            (state self.new).cells }
         ensures counts { Operates (state self.old) (stop_of result) (state self.new) };
 
     /// Writes the bytes and the spare of an erased page, which is closed then.
     fn program(&mut self, at: Ppn, from: &PageBuf, spare: Spare) -> Result<(), FlashStop>
         requires place { at.0 < length (state self.old).cells }
         requires erased { cell_at (state self.old).cells at.0 ≡ erased }
-        requires life { (state self.old).operations < 2 ^ 63 }
-        ensures cells { Programs (state self.old).cells at.0 from.now spare result (state self.new).cells }
+        requires life { HasOperationsLeft (state self.old) }
+        ensures cells { Programs (state self.old).cells at.0 from.now spare result
+            (state self.new).cells }
         ensures counts { Operates (state self.old) (stop_of result) (state self.new) };
 
     /// Seals a closed page.
     fn seal(&mut self, at: Ppn) -> Result<(), FlashStop>
         requires place { at.0 < length (state self.old).cells }
         requires closed { IsClosed (cell_at (state self.old).cells at.0) }
-        requires life { (state self.old).operations < 2 ^ 63 }
+        requires life { HasOperationsLeft (state self.old) }
         ensures cells { Seals (state self.old).cells at.0 result (state self.new).cells }
         ensures counts { Operates (state self.old) (stop_of result) (state self.new) };
 
     /// Erases every page of a block.
     fn erase(&mut self, block: Block) -> Result<(), FlashStop>
         requires block { block.0 < (state self.old).blocks }
-        requires life { (state self.old).operations < 2 ^ 63 }
-        ensures cells { Erases (state self.old).per_block (state self.old).cells block.0 result (state self.new).cells }
+        requires life { HasOperationsLeft (state self.old) }
+        ensures cells { Erases (state self.old).per_block (state self.old).cells block.0 result
+            (state self.new).cells }
         ensures counts { Operates (state self.old) (stop_of result) (state self.new) };
 
     /// Turns the power off between two operations.
@@ -84,7 +89,7 @@ pub trait Flash {
     /// How often the flash has failed over its whole life.
     fn fault_count(&self) -> u64
         ensures count { result ≡ (state self.now).faults }
-        ensures sound { IsSound (state self.now) };
+        ensures sound { IsFlashSound (state self.now) };
 
     /// How many operations were made over the flash's whole life.
     fn operation_count(&self) -> u64

@@ -2,13 +2,14 @@
 //! contract.
 #![tactic(auto)]
 
-mod course;
 mod flash;
-mod page_store;
+mod injected;
+mod injector;
+mod page_arena;
+mod page_states;
 mod plan;
 mod sim_flash;
 mod spare;
-mod states;
 #[cfg(test)]
 mod tests;
 

@@ -1,3 +1,4 @@
+// A plan of faults: which operations fail, and in which the power is cut.
 ghost use Rattle.std.specs.Prelude.{◌≡◌, ◌↔◌, IfOk, IsTrue};
 ghost use Rattle.ff_flash.specs.Plans.{planned_of};
 

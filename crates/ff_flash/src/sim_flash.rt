@@ -1,17 +1,19 @@
 // A flash in memory that keeps the trait's contract.
-ghost use Rattle.std.specs.Prelude.{◌≡◌, ◌<◌, ◌^◌, ◌↔◌, IfOk, IfSome, IsSome, IsTrue, length, Some};
+ghost use Rattle.std.specs.Prelude.{◌≡◌, ◌<◌, ◌↔◌, IfOk, IfSome, IsSome, IsTrue, length, Some};
 ghost use Rattle.ff_base.specs.Geometry.{IsWithinLimits};
-ghost use Rattle.ff_flash.specs.Cells.{Erases, IsClosed, IsSealed, Probes, Programs, Reads, Seals, cell_at, erased, cut_program, cut_seal, cut_erased_cell, probe_of, ChangesEach};
-ghost use Rattle.ff_flash.specs.FlashState.{FlashState, Operates, powered_off, powered_up, stop_of};
-ghost use Rattle.ff_flash.specs.SimState.{CutsBy, IsSim, arrive_of_cut, fresh_flash};
-ghost use Rattle.ff_flash.specs.States.{stored};
+ghost use Rattle.ff_flash.specs.Cells.{ChangesEach, Erases, IsClosed, IsSealed, Probes, Programs, ReadsBytes, Seals, cell_after_erase, cell_at, cell_probe, cells_after, erased, program, seal};
+ghost use Rattle.ff_flash.specs.FlashState.{HasOperationsLeft, Operates, powered_off, powered_up};
+ghost use Rattle.ff_flash.specs.Injected.{stop_of};
 ghost use Rattle.ff_flash.specs.Plans.{IsPlan, planned_of};
+ghost use Rattle.ff_flash.specs.SimFlash.{IsSimFlashSound, arrive_of_cut, fresh_flash, next_in};
 
-use crate::course::{Course, Turn};
-use crate::page_store::PageStore;
-use crate::states::{PageState, copied, erase_at, erased_states, probe_of, program_at, seal_at};
+use crate::injector::Injector;
+use crate::page_arena::PageArena;
+use crate::page_states::{
+    PageState, copied, erase_at, erased_states, probe_of, program_at, seal_at,
+};
 use crate::{Flash, FlashStop, Plan, Probe, Spare};
-use ff_base::{Block, Geometry, NoMemory, PAGE_BYTES, PageBuf, Ppn};
+use ff_base::{Block, Geometry, NoMemory, PageBuf, Ppn};
 use std::alloc::Global;
 use std::marker::Model;
 
@@ -21,8 +23,8 @@ pub struct SimFlash {
     blocks: u32,
     per_block: u32,
     states: Vec<PageState>,
-    pages: PageStore,
-    course: Course,
+    arena: PageArena,
+    injector: Injector,
 }
 
 impl Model for SimFlash {
@@ -30,9 +32,9 @@ impl Model for SimFlash {
 
     ghost Value = { FlashState };
 
-    ghost use Rattle.ff_flash.specs.SimFields.{state_of, IsKept};
+    ghost use Rattle.ff_flash.specs.SimFlashFields.{IsKept, view_of};
 
-    ghost view = { state_of };
+    ghost view = { view_of };
 
     ghost invariant = { IsKept };
 }
@@ -49,8 +51,8 @@ impl SimFlash {
             blocks: geometry.blocks,
             per_block: geometry.per_block,
             states: erased_states(alloc, places)?,
-            pages: PageStore::new(alloc, places)?,
-            course: Course::new(plan),
+            arena: PageArena::new(alloc, places)?,
+            injector: Injector::new(plan),
         })
     }
 
@@ -62,23 +64,23 @@ impl SimFlash {
             blocks: self.blocks,
             per_block: self.per_block,
             states: copied(alloc, &self.states)?,
-            pages: self.pages.copy(alloc)?,
-            course: self.course.copy(alloc)?,
+            arena: self.arena.copy(alloc)?,
+            injector: self.injector.copy(alloc)?,
         })
     }
 
     /// How many of the waiting posts arrive, where an operation that was cut turned the power off.
     pub fn cut_arrive(&self) -> Option<u32>
         ensures arrive { result ≡ arrive_of_cut self.now }
-        ensures known { IsSim self.now }
+        ensures known { IsSimFlashSound self.now }
     {
-        self.course.cut_arrive()
+        self.injector.cut_arrive()
     }
 
     /// What a probe of a place would tell, where the flash has the place. It is no operation, and isn't counted.
     pub fn glance(&self, at: Ppn) -> Option<Probe>
         ensures within { IsSome result ↔ (at.0 < length self.now.cells) }
-        ensures probe { IfSome result (λ probe. probe ≡ probe_of (cell_at self.now.cells at.0)) }
+        ensures probe { IfSome result (λ probe. probe ≡ cell_probe (cell_at self.now.cells at.0)) }
     {
         if at.0 as usize >= self.states.len() {
             return None;
@@ -90,7 +92,7 @@ impl SimFlash {
     pub fn plan_is(&self, plan: &Plan) -> bool
         ensures { IsTrue result ↔ (self.now.plan ≡ Some (planned_of plan.now)) }
     {
-        self.course.plan().is(plan)
+        self.injector.plan().is(plan)
     }
 }
 
@@ -108,105 +110,89 @@ impl Flash for SimFlash {
 
     fn probe(&mut self, at: Ppn) -> Result<Probe, FlashStop>
         requires place { at.0 < length self.old.cells }
-        requires life { self.old.operations < 2 ^ 63 }
+        requires life { HasOperationsLeft self.old }
         ensures cells { Probes self.old.cells at.0 result self.new.cells }
         ensures counts { Operates self.old (stop_of result) self.new }
     {
-        let turn = self.course.next();
-        if let Some(stop) = turn.stop() {
-            return Err(stop);
-        }
+        self.injector.next().answer()?;
         Ok(probe_of(self.states[at.0 as usize]))
     }
 
     fn read(&mut self, at: Ppn, into: &mut PageBuf) -> Result<(), FlashStop>
         requires place { at.0 < length self.old.cells }
         requires sealed { IsSealed (cell_at self.old.cells at.0) }
-        requires life { self.old.operations < 2 ^ 63 }
-        ensures cells { Reads self.old.cells at.0 into.old result into.new self.new.cells }
+        requires life { HasOperationsLeft self.old }
+        ensures cells { ReadsBytes self.old.cells at.0 into.old result into.new self.new.cells }
         ensures counts { Operates self.old (stop_of result) self.new }
     {
-        let turn = self.course.next();
-        if let Some(stop) = turn.stop() {
-            return Err(stop);
-        }
-        into.copy_from(self.pages.page(at.0));
+        self.injector.next().answer()?;
+        into.copy_from(self.arena.page(at.0));
         Ok(())
     }
 
     fn program(&mut self, at: Ppn, from: &PageBuf, spare: Spare) -> Result<(), FlashStop>
         requires place { at.0 < length self.old.cells }
         requires erased { cell_at self.old.cells at.0 ≡ erased }
-        requires life { self.old.operations < 2 ^ 63 }
+        requires life { HasOperationsLeft self.old }
         ensures cells { Programs self.old.cells at.0 from.now spare result self.new.cells }
         ensures counts { Operates self.old (stop_of result) self.new }
-        ensures cut { CutsBy self.old (λ mask. self.new.cells ≡ cut_program mask self.old.cells at.0) }
+        ensures planned { self.new.cells
+            ≡ cells_after (program from.now spare) (next_in self.old) self.old.cells at.0 }
     {
-        let turn = self.course.next();
-        program_at(&mut self.states, at.0, turn, spare);
-        store(&mut self.pages, at.0, turn, from.as_slice());
-        turn.answer()
+        let injected = self.injector.next();
+        self.arena.put(at.0, from.as_slice());
+        program_at(&mut self.states, at.0, spare, injected);
+        injected.answer()
     }
 
     fn seal(&mut self, at: Ppn) -> Result<(), FlashStop>
         requires place { at.0 < length self.old.cells }
         requires closed { IsClosed (cell_at self.old.cells at.0) }
-        requires life { self.old.operations < 2 ^ 63 }
+        requires life { HasOperationsLeft self.old }
         ensures cells { Seals self.old.cells at.0 result self.new.cells }
         ensures counts { Operates self.old (stop_of result) self.new }
-        ensures cut { CutsBy self.old (λ mask. self.new.cells ≡ cut_seal mask self.old.cells at.0) }
+        ensures planned { self.new.cells ≡ cells_after seal (next_in self.old) self.old.cells at.0 }
     {
-        let turn = self.course.next();
-        seal_at(&mut self.states, at.0, turn);
-        turn.answer()
+        let injected = self.injector.next();
+        seal_at(&mut self.states, at.0, injected);
+        injected.answer()
     }
 
     fn erase(&mut self, block: Block) -> Result<(), FlashStop>
         requires block { block.0 < self.old.blocks }
-        requires life { self.old.operations < 2 ^ 63 }
+        requires life { HasOperationsLeft self.old }
         ensures cells { Erases self.old.per_block self.old.cells block.0 result self.new.cells }
         ensures counts { Operates self.old (stop_of result) self.new }
-        ensures cut { CutsBy self.old (λ mask. ChangesEach (cut_erased_cell mask self.old.per_block block.0) self.old.cells self.new.cells) }
+        ensures planned { ChangesEach (cell_after_erase self.old.per_block block.0 (next_in self.old))
+            self.old.cells self.new.cells }
     {
-        let turn = self.course.next();
+        let injected = self.injector.next();
         let first = block.0 * self.per_block;
-        erase_at(&mut self.states, first, self.per_block, turn);
-        turn.answer()
+        erase_at(&mut self.states, first, self.per_block, injected);
+        injected.answer()
     }
 
     fn power_off(&mut self)
         ensures { self.new ≡ powered_off self.old }
     {
-        self.course.power_off();
+        self.injector.power_off();
     }
 
     fn power_up(&mut self)
         ensures { self.new ≡ powered_up self.old }
     {
-        self.course.power_up();
+        self.injector.power_up();
     }
 
     fn is_on(&self) -> bool {
-        self.course.is_on()
+        self.injector.is_on()
     }
 
     fn fault_count(&self) -> u64 {
-        self.course.fault_count()
+        self.injector.fault_count()
     }
 
     fn operation_count(&self) -> u64 {
-        self.course.operation_count()
-    }
-}
-
-// A page's bytes are kept where its program works.
-fn store(pages: &mut PageStore, at: u32, turn: Turn, page: &[u8])
-    requires place { at < length pages.old }
-    requires size { length page.now ≡ PAGE_BYTES }
-    ensures { pages.new ≡ stored turn pages.old at page.now }
-{
-    match turn {
-        Turn::Works => pages.put(at, page),
-        _ => {}
+        self.injector.operation_count()
     }
 }

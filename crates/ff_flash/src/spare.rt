@@ -1,6 +1,7 @@
+// The spare of a page, and its bytes.
 ghost use Rattle.std.specs.Prelude.{◌≡◌, ◌≢◌, ◌↔◌, ◌<◌, ◌^◌, IfSome, IsNone, replicate, slice_range};
 ghost use Rattle.ff_flash.specs.declared.spare.Spare.{Spare};
-ghost use Rattle.ff_flash.specs.Spares.{spare_text};
+ghost use Rattle.ff_flash.specs.Spare.{spare_text};
 
 use ff_base::PageNo;
 
@@ -24,7 +25,8 @@ impl Spare {
     /// The spare that is written so, if one is: bytes 4 to 7 are zeros.
     pub fn from_bytes(bytes: &[u8; 16]) -> Option<Spare>
         ensures some { IfSome result (λ spare. bytes.now ≡ spare_text spare) }
-        ensures only { (spare : Spare) → spare.page.0 < 2 ^ 32 → spare.version < 2 ^ 64 → bytes.now ≡ spare_text spare → result ≡ Some spare }
+        ensures only { (spare : Spare) → spare.page.0 < 2 ^ 32 → spare.version < 2 ^ 64
+            → bytes.now ≡ spare_text spare → result ≡ Some spare }
         ensures none { IsNone result ↔ (slice_range bytes.now 4 8 ≢ replicate 4 0) }
     {
         let [a, b, c, d, 0, 0, 0, 0, e, f, g, h, i, j, k, l] = *bytes else {

@@ -1,7 +1,7 @@
 use Rattle.std.proofs.Common.{sym, ◌∙◌, arith}
 use Rattle.std.proofs.lemmas.List.{length-replicate}
-use Rattle.ff_flash.proofs.CellLists.{fresh_cells, full_fresh}
-use Rattle.ff_flash.proofs.Operations.{fresh_is}
+use Rattle.ff_flash.proofs.SimCells.{fresh_cells, full_fresh}
+use Rattle.ff_flash.proofs.SimOperations.{fresh_is}
 use Rattle.ff_flash.proofs.sim_flash.SimFlash.new.Goals as goal
 
 pub invariant_of-result : goal.invariant_of-result
@@ -14,7 +14,7 @@ invariant_of-result c =
       some = omega arith;
       small = omega arith;
       pages = rw (states.items, c.in_ok-new.ensures) (length-replicate _ _ ∙ sym (length-replicate _ _));
-      course = rw c.new-2.ensures (record { plan = c.requires.plan; cut = tt });
+      injector = rw c.new-2.ensures (record { plan = c.requires.plan; cut = tt });
       full = rw (states.items, c.in_ok-new.ensures, fresh_cells) (full_fresh _);
     }
 

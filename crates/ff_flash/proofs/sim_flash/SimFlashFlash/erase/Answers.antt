@@ -1,36 +1,41 @@
-use Rattle.std.proofs.Common.{◌*◌, ap, sym, subst, ◌∙◌}
-use Rattle.ff_flash.proofs.BlockCells.{cut_erases, erases_by, erases_off, full_erased}
-use Rattle.ff_flash.proofs.Operations.{on_course_after, operates_as, turn_cut}
-use Rattle.ff_flash.specs.FlashState.{stop_of}
-use Rattle.ff_flash.specs.States.{EachState, block_state}
-use Rattle.ff_flash.specs.Turns.{answer_of}
+use Rattle.std.proofs.Common.{ap, sym, ◌∙◌}
+use Rattle.ff_flash.proofs.OperationCells.{erase_off}
+use Rattle.ff_flash.proofs.SimCells.{erased_cells, full_block}
+use Rattle.ff_flash.proofs.SimOperations.{block_by, operates_as, sound_after, went_block}
+use Rattle.ff_flash.specs.Injected.{answer_of, stop_of}
 use Rattle.ff_flash.proofs.sim_flash.SimFlashFlash.erase.Goals as goal
 
 pub invariant_of-self : goal.invariant_of-self
-invariant_of-self c = record {
-  size = c.erase_at.ensures.len ∙ c.self.invariant.size;
-  some = c.self.invariant.some;
-  small = c.self.invariant.small;
-  pages = c.self.invariant.pages ∙ sym c.erase_at.ensures.items.size;
-  course = rw c.next-turn.ensures.course (on_course_after c.self.inside.course c.self.invariant.course);
-  full = full_erased c.next-turn.result _ _ c.self.inside.states.items c.erase_at.new.states.items c.self.inside.pages c.self.invariant.pages c.erase_at.ensures.items c.self.invariant.full;
-}
+invariant_of-self c =
+    let kept = c.self.invariant in
+    let cells = erased_cells c.self.inside.per_block c.args.block.0 c.next-injected.result _ _ _ kept.some kept.pages c.erase_at.ensures.erased in
+    record {
+      size = c.erase_at.ensures.len ∙ kept.size;
+      some = kept.some;
+      small = kept.small;
+      pages = kept.pages ∙ sym c.erase_at.ensures.erased.size;
+      injector = rw c.next-injected.ensures.after (sound_after _ kept.injector);
+      full = full_block c.self.inside.per_block c.args.block.0 c.next-injected.result _ _ cells kept.full;
+    }
 
 pub returns-clause-cells : goal.returns-clause-cells
 returns-clause-cells c =
-    rw (← c.self.view_is, c.answer.ensures)
-    (erases_by c.next-turn.result c.self.inside.per_block c.args.block.0 c.self.inside.states.items c.erase_at.new.states.items c.self.inside.pages c.self.invariant.some c.self.invariant.pages c.erase_at.ensures.items)
+    let kept = c.self.invariant in
+    rw (← c.self.view_is)
+    (went_block c.self.inside.per_block c.args.block.0 c.next-injected.result _ _ _ c.answer.ensures
+    (erased_cells c.self.inside.per_block c.args.block.0 c.next-injected.result _ _ _ kept.some kept.pages c.erase_at.ensures.erased))
 
 pub returns-clause-counts : goal.returns-clause-counts
 returns-clause-counts c =
-    rw (← c.self.view_is, c.next-turn.ensures.course, c.answer.ensures)
-    (operates_as _ _ _ _ _ _ c.self.invariant.course.plan
-    (λ off. erases_off c.next-turn.result _ _ c.self.inside.states.items c.erase_at.new.states.items c.self.inside.pages (c.next-turn.ensures.turn ∙ off) c.erase_at.ensures.items)
-    (ap (λ t. stop_of (answer_of t)) c.next-turn.ensures.turn))
+    let kept = c.self.invariant in
+    let cells = erased_cells c.self.inside.per_block c.args.block.0 c.next-injected.result _ _ _ kept.some kept.pages c.erase_at.ensures.erased in
+    rw (← c.self.view_is, c.next-injected.ensures.after)
+    (operates_as _ _ _ _ _ _ kept.injector.plan
+    (λ off. erase_off c.self.inside.per_block _ c.args.block.0 c.next-injected.result _ (c.next-injected.ensures.injected ∙ off) cells)
+    (ap stop_of (c.answer.ensures ∙ ap answer_of c.next-injected.ensures.injected)))
 
-pub returns-clause-cut : goal.returns-clause-cut
-returns-clause-cut c cut on at =
-    let turn = c.next-turn.ensures.turn ∙ turn_cut c.self.inside.course cut c.self.invariant.course.plan (rw (← c.self.view_is) at on) (rw (← c.self.view_is) at at) in
-    let each = subst (λ t. EachState (block_state t (c.args.block.0 * c.self.inside.per_block) c.self.inside.per_block) c.self.inside.states.items c.erase_at.new.states.items) turn c.erase_at.ensures.items in
-    rw (← c.self.view_is)
-    (cut_erases cut c.self.inside.per_block c.args.block.0 c.self.inside.states.items c.erase_at.new.states.items c.self.inside.pages c.self.invariant.some c.self.invariant.pages each)
+pub returns-clause-planned : goal.returns-clause-planned
+returns-clause-planned c =
+    let kept = c.self.invariant in
+    let cells = erased_cells c.self.inside.per_block c.args.block.0 c.next-injected.result _ _ _ kept.some kept.pages c.erase_at.ensures.erased in
+    rw (← c.self.view_is) (block_by c.self.inside.per_block c.args.block.0 _ _ _ _ c.next-injected.ensures.injected cells)

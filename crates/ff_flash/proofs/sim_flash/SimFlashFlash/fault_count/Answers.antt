@@ -1,9 +1,10 @@
 use Rattle.std.proofs.Common.{sym, ◌∙◌}
-use Rattle.ff_flash.proofs.CellLists.{length-cells_of}
-use Rattle.ff_flash.proofs.Operations.{sim_known}
+use Rattle.ff_flash.proofs.SimCells.{length-cells_of}
+use Rattle.ff_flash.proofs.SimOperations.{sim_sound}
 use Rattle.ff_flash.proofs.sim_flash.SimFlashFlash.fault_count.Goals as goal
 
 pub returns-clause-sound : goal.returns-clause-sound
 returns-clause-sound c =
-    let size = length-cells_of c.self.inside.states.items c.self.inside.pages c.self.invariant.pages ∙ sym c.self.inside.states.ok.0 ∙ c.self.invariant.size in
-    rw (← c.self.view_is) (sim_known c.self.inside.blocks c.self.inside.per_block _ c.self.inside.course size c.self.invariant.course c.self.invariant.full).sound
+    let kept = c.self.invariant in
+    let size = length-cells_of _ _ kept.pages ∙ sym c.self.inside.states.ok.0 ∙ kept.size in
+    rw (← c.self.view_is) (sim_sound _ _ _ _ size kept.injector kept.full).sound
