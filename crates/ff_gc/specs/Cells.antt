@@ -2,7 +2,7 @@
 use Rattle.std.specs.Prelude.{ℕ, ◌+◌, ◌/◌, ◌<◌, ◌≤◌, ◌≡◌, ◌≢◌, ◌⊎◌, List, length, Option, None, Some}
 use Rattle.ff_base.specs.declared.numbers.PageNo.{PageNo}
 use Rattle.ff_base.specs.declared.numbers.TheConstants.{PAGE_BYTES}
-use Rattle.ff_flash.specs.Cells.{Cell, sealed, bytes_of, cell_at}
+use Rattle.ff_flash.specs.Cells.{Cell, sealed, cell_at, cell_bytes}
 use Rattle.ff_flash.specs.declared.spare.Spare.{Spare}
 use Rattle.ff_map.specs.PageMap.{MapView, mapping_of}
 use Rattle.ff_map.specs.declared.places.Mapping.{Mapping}
@@ -42,7 +42,7 @@ pub record HasNewer (places : MapView) (spare : Spare) : Type 0 where
 pub record AreMapped (unmapped : Option Unmapped) (cells : List Cell) (places : MapView) : Type 0 where
   pub placed : (page : PageNo) (m : Mapping) → mapping_of places page ≡ Some m
     → cell_at cells m.at.0
-    ≡ sealed (bytes_of (cell_at cells m.at.0)) (record { page = page; version = m.version })
+    ≡ sealed (cell_bytes (cell_at cells m.at.0)) (record { page = page; version = m.version })
   pub known : (a : ℕ) (x : List ℕ) (spare : Spare) → cell_at cells a ≡ sealed x spare
     → HasNewer places spare ⊎ IsUnmapped unmapped a spare
   pub next : (a : ℕ) (x : List ℕ) (spare : Spare) → cell_at cells a ≡ sealed x spare

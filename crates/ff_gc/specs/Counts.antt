@@ -1,15 +1,15 @@
 -- How many operations of each kind were begun.
 use Rattle.std.specs.Prelude.{ℕ, ◌+◌}
 use Rattle.ff_gc.specs.declared.counts.Counts.{Counts}
-use Rattle.ff_gc.specs.declared.counts.Operation.{Operation}
-use Rattle.ff_gc.specs.declared.counts.Operation.TheVariants.{Read, Program, Seal, Erase}
+use Rattle.ff_gc.specs.declared.counts.OperationKind.{OperationKind}
+use Rattle.ff_gc.specs.declared.counts.OperationKind.TheVariants.{Read, Program, Seal, Erase}
 
 -- none was begun
 abbrev pub no_counts : Counts
 no_counts = record { reads = 0; programs = 0; seals = 0; erases = 0 }
 
 -- the counts after one more was begun
-abbrev pub begun : Operation → Counts → Counts
+abbrev pub begun : OperationKind → Counts → Counts
 begun Read counts = record counts { reads = counts.reads + 1 }
 begun Program counts = record counts { programs = counts.programs + 1 }
 begun Seal counts = record counts { seals = counts.seals + 1 }

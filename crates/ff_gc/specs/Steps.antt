@@ -2,8 +2,9 @@
 use Rattle.std.specs.Prelude.{ℕ, ◌+◌, ◌*◌, ◌<◌, ◌≡◌, ◌≢◌, true, List, [], ◌∷◌, ◌++◌, length, Option, None, Some, Result, Ok, Err, IfOk}
 use Rattle.ff_base.specs.declared.numbers.Block.{Block}
 use Rattle.ff_base.specs.declared.numbers.Ppn.{Ppn}
-use Rattle.ff_flash.specs.Cells.{Erases, Programs, Reads, Seals}
-use Rattle.ff_flash.specs.FlashState.{Operates, stop_of}
+use Rattle.ff_flash.specs.Cells.{Erases, Programs, ReadsBytes, Seals}
+use Rattle.ff_flash.specs.FlashState.{Operates}
+use Rattle.ff_flash.specs.Injected.{stop_of}
 use Rattle.ff_flash.specs.declared.flash.FlashStop.{FlashStop}
 use Rattle.ff_flash.specs.declared.flash.FlashStop.TheVariants.{Failed, Off}
 use Rattle.ff_space.specs.Blocks.{advanced, after_hold, erased_block, waiting}
@@ -17,8 +18,8 @@ use Rattle.ff_gc.specs.Originals.{IsAfter, IsAllSeen, IsNext, move_to, past, spa
 use Rattle.ff_gc.specs.World.{World}
 use Rattle.ff_gc.specs.declared.collector.GcStep.{GcStep}
 use Rattle.ff_gc.specs.declared.collector.GcStep.TheVariants.{Idle as IdleStep, Read, Programmed, Sealed, Committed, Erased, Aborted}
-use Rattle.ff_gc.specs.declared.counts.Operation.{Operation}
-use Rattle.ff_gc.specs.declared.counts.Operation.TheVariants.{Read as ReadOperation, Program as ProgramOperation, Seal as SealOperation, Erase as EraseOperation}
+use Rattle.ff_gc.specs.declared.counts.OperationKind.{OperationKind}
+use Rattle.ff_gc.specs.declared.counts.OperationKind.TheVariants.{Read as ReadOperation, Program as ProgramOperation, Seal as SealOperation, Erase as EraseOperation}
 use Rattle.ff_gc.specs.declared.phase.Job.{Job}
 use Rattle.ff_gc.specs.declared.phase.Original.{Original}
 use Rattle.ff_gc.specs.declared.phase.Phase.{Phase}
@@ -30,13 +31,13 @@ operation_of (Ok _) = Ok tt
 operation_of (Err stop) = Err stop
 
 -- one operation of the flash was made, and counted under its kind, also where it failed or was cut
-pub record Makes (kind : Operation) (old : World) (stop : Option FlashStop) (new : World) : Type 0 where
+pub record Makes (kind : OperationKind) (old : World) (stop : Option FlashStop) (new : World) : Type 0 where
   pub flash : Operates old.flash stop new.flash
   pub counts : new.counts ≡ begun kind old.counts
 
 -- the flash made one operation, or none
 pub data Takes (old : World) (stop : Option FlashStop) (new : World) : Type 0 where
-  made : (kind : Operation) → Makes kind old stop new → Takes old stop new
+  made : (kind : OperationKind) → Makes kind old stop new → Takes old stop new
   rested : new.flash ≡ old.flash → new.counts ≡ old.counts → stop ≡ None → Takes old stop new
 
 -- the page in the destination that is programmed next
@@ -50,7 +51,7 @@ after_read gc job original (Err _) bytes = gc
 
 pub record ReadsPage (old : World) (job : Job) (original : Original) (result : Result GcStep FlashStop) (new : World) : Type 0 where
   pub operation : Makes ReadOperation old (stop_of result) new
-  pub cells : Reads old.flash.cells original.from.0 old.gc.bytes (operation_of result) new.gc.bytes new.flash.cells
+  pub cells : ReadsBytes old.flash.cells original.from.0 old.gc.bytes (operation_of result) new.gc.bytes new.flash.cells
   pub step : IfOk result (λ step. step ≡ Read)
   pub gc : new.gc ≡ after_read old.gc job original result new.gc.bytes
   pub table : new.table ≡ old.table

@@ -2,7 +2,7 @@
 use Rattle.std.specs.Prelude.{ℕ, ◌*◌, ◌^◌, ◌<◌, ◌≡◌, true, List, length, Option, None, Some}
 use Rattle.ff_base.specs.Page.{blank_page}
 use Rattle.ff_base.specs.declared.numbers.PageNo.{PageNo}
-use Rattle.ff_flash.specs.Cells.{Cell, bytes_of, cell_at}
+use Rattle.ff_flash.specs.Cells.{Cell, cell_at, cell_bytes}
 use Rattle.ff_flash.specs.FlashState.{FlashState}
 use Rattle.ff_space.specs.BlockTable.{TableView}
 use Rattle.ff_map.specs.PageMap.{MapView, mapping_of, version_of}
@@ -37,7 +37,7 @@ pub record Fits (w : World) : Type 0 where
 -- the bytes of a mapped page, or zeros
 abbrev pub mapped_bytes : List Cell → Option Mapping → List ℕ
 mapped_bytes cells None = blank_page
-mapped_bytes cells (Some m) = bytes_of (cell_at cells m.at.0)
+mapped_bytes cells (Some m) = cell_bytes (cell_at cells m.at.0)
 
 -- the bytes of a page: what is stored is a map of pages to bytes
 abbrev pub page_bytes : World → PageNo → List ℕ

@@ -3,6 +3,7 @@ ghost use Rattle.std.specs.Prelude.{◌≡◌, ◌<◌, ◌^◌};
 ghost use Rattle.ff_space.specs.BlockTable.{IsInState};
 ghost use Rattle.ff_space.specs.Choices.{IsLeast, IsVictimBlock};
 ghost use Rattle.ff_space.specs.declared.block.BlockState.TheVariants.{Erased};
+ghost use Rattle.ff_flash.specs.FlashState.{HasOperationsLeft};
 ghost use Rattle.ff_gc.specs.Counts.{total_of};
 ghost use Rattle.ff_gc.specs.Running.{HasBlock};
 ghost use Rattle.ff_gc.specs.Steps.{Begins};
@@ -27,7 +28,7 @@ impl Collector {
         counts: &mut Counts,
     ) -> Result<GcStep, FlashStop>
         requires ready { IsReady (world_of self.old (F.state flash.old) space.old map.old counts.old) }
-        requires life { (F.state flash.old).operations < 2 ^ 63 }
+        requires life { HasOperationsLeft (F.state flash.old) }
         requires counted { total_of counts.old < 2 ^ 63 }
         requires phase { self.old.phase ≡ Idle }
         ensures { Begins (world_of self.old (F.state flash.old) space.old map.old counts.old) result
@@ -48,7 +49,7 @@ impl Collector {
         victim: Block,
     ) -> Result<GcStep, FlashStop>
         requires ready { IsReady (world_of self.old (F.state flash.old) space.old map.old counts.old) }
-        requires life { (F.state flash.old).operations < 2 ^ 63 }
+        requires life { HasOperationsLeft (F.state flash.old) }
         requires counted { total_of counts.old < 2 ^ 63 }
         requires phase { self.old.phase ≡ Idle }
         requires victim { IsVictimBlock space.old.per_block space.old.blocks victim.0 }

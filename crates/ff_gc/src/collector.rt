@@ -1,6 +1,7 @@
 // The collector, and what it does at each step.
 ghost use Rattle.std.specs.Prelude.{◌≡◌, ◌<◌, ◌^◌, true, false, [], IfOk, Ok, Err};
 ghost use Rattle.ff_flash.specs.declared.flash.FlashStop.TheVariants.{Off};
+ghost use Rattle.ff_flash.specs.FlashState.{HasOperationsLeft};
 ghost use Rattle.ff_gc.specs.Collector.{is_busy, mounted_phase, new_collector};
 ghost use Rattle.ff_gc.specs.Counts.{total_of};
 ghost use Rattle.ff_gc.specs.Steps.{IsStep};
@@ -95,7 +96,7 @@ impl Collector {
     ) -> Result<GcStep, FlashStop>
         requires ready { (F.state flash.old).on ≡ true
             → IsReady (world_of self.old (F.state flash.old) space.old map.old counts.old) }
-        requires life { (F.state flash.old).operations < 2 ^ 63 }
+        requires life { HasOperationsLeft (F.state flash.old) }
         requires counted { total_of counts.old < 2 ^ 63 }
         ensures off { (F.state flash.old).on ≡ false → (result ≡ Err Off)
             × (world_of self.new (F.state flash.new) space.new map.new counts.new
@@ -121,7 +122,7 @@ impl Collector {
         counts: &mut Counts,
     ) -> Result<GcStep, FlashStop>
         requires ready { IsReady (world_of self.old (F.state flash.old) space.old map.old counts.old) }
-        requires life { (F.state flash.old).operations < 2 ^ 63 }
+        requires life { HasOperationsLeft (F.state flash.old) }
         requires counted { total_of counts.old < 2 ^ 63 }
         ensures { IsStep (world_of self.old (F.state flash.old) space.old map.old counts.old) result
             (world_of self.new (F.state flash.new) space.new map.new counts.new) }

@@ -3,13 +3,14 @@ ghost use Rattle.std.specs.Prelude.{◌≡◌, ◌+◌, ◌*◌, ◌<◌, ◌^�
 ghost use Rattle.ff_flash.specs.Cells.{IsClosed, IsSealed, cell_at, erased};
 ghost use Rattle.ff_space.specs.Blocks.{CanAdvance};
 ghost use Rattle.ff_space.specs.BlockTable.{IsInRange, block_at};
+ghost use Rattle.ff_flash.specs.FlashState.{HasOperationsLeft};
 ghost use Rattle.ff_gc.specs.Counts.{total_of};
 ghost use Rattle.ff_gc.specs.Steps.{ProgramsCopy, ProgramsNext, ReadsNext, ReadsPage, SealsCopy, next_place};
 ghost use Rattle.ff_gc.specs.declared.phase.Phase.TheVariants.{Programming, Reading};
 ghost use Rattle.ff_gc.specs.World.{IsReady, world_of};
 
 use crate::collector::{Collector, GcStep};
-use crate::counts::{Counts, Operation};
+use crate::counts::{Counts, OperationKind};
 use crate::originals::{next_original, phase_after};
 use crate::phase::{Job, Original, Phase};
 use ff_base::Ppn;
@@ -28,7 +29,7 @@ impl Collector {
         job: Job,
     ) -> Result<GcStep, FlashStop>
         requires ready { IsReady (world_of self.old (F.state flash.old) space.old map.old counts.old) }
-        requires life { (F.state flash.old).operations < 2 ^ 63 }
+        requires life { HasOperationsLeft (F.state flash.old) }
         requires counted { total_of counts.old < 2 ^ 63 }
         requires phase { self.old.phase ≡ Reading job }
         ensures { ReadsNext (world_of self.old (F.state flash.old) space.old map.old counts.old) job result
@@ -49,7 +50,7 @@ impl Collector {
         job: Job,
         original: Original,
     ) -> Result<GcStep, FlashStop>
-        requires life { (F.state flash.old).operations < 2 ^ 63 }
+        requires life { HasOperationsLeft (F.state flash.old) }
         requires counted { total_of counts.old < 2 ^ 63 }
         requires place { original.from.0 < length (F.state flash.old).cells }
         requires sealed { IsSealed (cell_at (F.state flash.old).cells original.from.0) }
@@ -58,7 +59,7 @@ impl Collector {
     {
         let _ = space;
         let _ = map;
-        counts.begin(Operation::Read);
+        counts.begin(OperationKind::Read);
         match flash.read(original.from, &mut self.bytes) {
             Ok(()) => {
                 self.phase = Phase::Programming(job, original);
@@ -79,7 +80,7 @@ impl Collector {
         original: Original,
     ) -> Result<GcStep, FlashStop>
         requires ready { IsReady (world_of self.old (F.state flash.old) space.old map.now counts.old) }
-        requires life { (F.state flash.old).operations < 2 ^ 63 }
+        requires life { HasOperationsLeft (F.state flash.old) }
         requires counted { total_of counts.old < 2 ^ 63 }
         requires phase { self.old.phase ≡ Programming job original }
         ensures { ProgramsNext (world_of self.old (F.state flash.old) space.old map.now counts.old) job original result
@@ -106,7 +107,7 @@ impl Collector {
         original: Original,
         at: Ppn,
     ) -> Result<GcStep, FlashStop>
-        requires life { (F.state flash.old).operations < 2 ^ 63 }
+        requires life { HasOperationsLeft (F.state flash.old) }
         requires counted { total_of counts.old < 2 ^ 63 }
         requires block { IsInRange space.old job.into.0 }
         requires can { CanAdvance space.old.per_block (block_at space.old job.into.0) }
@@ -117,7 +118,7 @@ impl Collector {
             (world_of self.new (F.state flash.new) space.new map.now counts.new) }
     {
         let _ = map;
-        counts.begin(Operation::Program);
+        counts.begin(OperationKind::Program);
         match flash.program(at, &self.bytes, original.spare()) {
             Ok(()) => {
                 space.advance(job.into);
@@ -143,7 +144,7 @@ impl Collector {
         original: Original,
         at: Ppn,
     ) -> Result<GcStep, FlashStop>
-        requires life { (F.state flash.old).operations < 2 ^ 63 }
+        requires life { HasOperationsLeft (F.state flash.old) }
         requires counted { total_of counts.old < 2 ^ 63 }
         requires place { at.0 < length (F.state flash.old).cells }
         requires closed { IsClosed (cell_at (F.state flash.old).cells at.0) }
@@ -154,7 +155,7 @@ impl Collector {
             (world_of self.new (F.state flash.new) space.now map.now counts.new) }
     {
         let _ = space;
-        counts.begin(Operation::Seal);
+        counts.begin(OperationKind::Seal);
         match flash.seal(at) {
             Ok(()) => {
                 self.moves.push_reserved(original.move_to(at));

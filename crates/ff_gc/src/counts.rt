@@ -4,7 +4,7 @@ ghost use Rattle.ff_gc.specs.Counts.{begun, no_counts, total_of};
 
 /// A kind of flash operation that a store makes.
 #[derive(Clone, Copy, Debug, PartialEq, Eq)]
-pub enum Operation {
+pub enum OperationKind {
     Read,
     Program,
     Seal,
@@ -33,15 +33,15 @@ impl Counts {
     }
 
     /// Counts one more.
-    pub fn begin(&mut self, operation: Operation)
+    pub fn begin(&mut self, kind: OperationKind)
         requires { total_of self.old < 2 ^ 63 }
-        ensures { self.new ≡ begun operation self.old }
+        ensures { self.new ≡ begun kind self.old }
     {
-        match operation {
-            Operation::Read => self.reads += 1,
-            Operation::Program => self.programs += 1,
-            Operation::Seal => self.seals += 1,
-            Operation::Erase => self.erases += 1,
+        match kind {
+            OperationKind::Read => self.reads += 1,
+            OperationKind::Program => self.programs += 1,
+            OperationKind::Seal => self.seals += 1,
+            OperationKind::Erase => self.erases += 1,
         }
     }
 }

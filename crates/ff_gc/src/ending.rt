@@ -3,12 +3,13 @@ ghost use Rattle.std.specs.Prelude.{◌≡◌, ◌<◌, ◌^◌, length};
 ghost use Rattle.ff_space.specs.BlockTable.{CanEnd, IsInState};
 ghost use Rattle.ff_space.specs.declared.block.BlockState.TheVariants.{Waiting};
 ghost use Rattle.ff_map.specs.PageMap.{CanSwitch};
+ghost use Rattle.ff_flash.specs.FlashState.{HasOperationsLeft};
 ghost use Rattle.ff_gc.specs.Counts.{total_of};
 ghost use Rattle.ff_gc.specs.Steps.{Commits, ErasesBlock};
 ghost use Rattle.ff_gc.specs.World.{world_of};
 
 use crate::collector::{Collector, GcStep};
-use crate::counts::{Counts, Operation};
+use crate::counts::{Counts, OperationKind};
 use crate::phase::{Job, Phase};
 use ff_base::Block;
 use ff_flash::{Flash, FlashStop};
@@ -49,7 +50,7 @@ impl Collector {
         block: Block,
         ends: GcStep,
     ) -> Result<GcStep, FlashStop>
-        requires life { (F.state flash.old).operations < 2 ^ 63 }
+        requires life { HasOperationsLeft (F.state flash.old) }
         requires counted { total_of counts.old < 2 ^ 63 }
         requires waits { IsInState space.old.blocks Waiting block.0 }
         requires size { (F.state flash.old).blocks ≡ length space.old.blocks }
@@ -57,7 +58,7 @@ impl Collector {
             (world_of self.new (F.state flash.new) space.new map.now counts.new) }
     {
         let _ = map;
-        counts.begin(Operation::Erase);
+        counts.begin(OperationKind::Erase);
         match flash.erase(block) {
             Ok(()) => {
                 space.set_erased(block);

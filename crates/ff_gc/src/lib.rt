@@ -11,5 +11,5 @@ mod originals;
 mod phase;
 
 pub use collector::{Collector, GcStep};
-pub use counts::{Counts, Operation};
+pub use counts::{Counts, OperationKind};
 pub use phase::{Job, Original, Phase};

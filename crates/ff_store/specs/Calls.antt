@@ -5,8 +5,8 @@ use Rattle.std.specs.Prelude.{
 }
 use Rattle.ff_base.specs.declared.numbers.PageNo.{PageNo}
 use Rattle.ff_base.specs.declared.numbers.Ppn.{Ppn}
-use Rattle.ff_flash.specs.Cells.{Programs, Reads, Seals, bytes_of, cell_at, closed}
-use Rattle.ff_flash.specs.FlashState.{stop_of}
+use Rattle.ff_flash.specs.Cells.{Programs, ReadsBytes, Seals, cell_at, cell_bytes, closed}
+use Rattle.ff_flash.specs.Injected.{stop_of}
 use Rattle.ff_flash.specs.declared.flash.FlashStop.{FlashStop}
 use Rattle.ff_flash.specs.declared.flash.FlashStop.TheVariants.{Failed, Off}
 use Rattle.ff_space.specs.Blocks.{advanced, mapped_less, mapped_more}
@@ -20,7 +20,7 @@ use Rattle.ff_gc.specs.Collector.{is_busy}
 use Rattle.ff_gc.specs.Steps.{IsStep, Makes, Takes, operation_of}
 use Rattle.ff_gc.specs.World.{page_bytes}
 use Rattle.ff_gc.specs.declared.collector.GcStep.{GcStep}
-use Rattle.ff_gc.specs.declared.counts.Operation.TheVariants.{Program, Read, Seal}
+use Rattle.ff_gc.specs.declared.counts.OperationKind.TheVariants.{Program, Read, Seal}
 use Rattle.ff_store.specs.PageStore.{PageStoreView, spare_of}
 use Rattle.ff_store.specs.declared.pending.Pending.{Pending}
 use Rattle.ff_store.specs.declared.store.FlushStep.{FlushStep}
@@ -53,13 +53,13 @@ waiting_page s = option_map (λ p. p.page) s.waits
 
 -- the programmed bytes of the page that is to be sealed
 abbrev pub waiting_bytes : PageStoreView → Option (List ℕ)
-waiting_bytes s = option_map (λ p. bytes_of (cell_at s.world.flash.cells p.at.0)) s.waits
+waiting_bytes s = option_map (λ p. cell_bytes (cell_at s.world.flash.cells p.at.0)) s.waits
 
 -- a mapped page is read into a buffer
 pub record Fetches (old : PageStoreView) (at : Ppn) (before : List ℕ)
     (result : Result (Unit {0}) FlashStop) (after : List ℕ) (new : PageStoreView) : Type 0 where
   pub operation : Makes Read old.world (stop_of result) new.world
-  pub cells : Reads old.world.flash.cells at.0 before result after new.world.flash.cells
+  pub cells : ReadsBytes old.world.flash.cells at.0 before result after new.world.flash.cells
   pub store : new ≡ record old {
     world = record old.world { flash = new.world.flash; counts = new.world.counts };
   }
@@ -197,7 +197,7 @@ pub record IsPlaced (old : PageStoreView) (page : PageNo) (new : PageStoreView) 
   pub waited : old.waits ≡ Some pending
   pub page_is : pending.page ≡ page
   pub places : new.world.places ≡ with_mapping old.world.places page (new_mapping pending)
-  pub bytes : page_bytes new.world page ≡ bytes_of (cell_at old.world.flash.cells pending.at.0)
+  pub bytes : page_bytes new.world page ≡ cell_bytes (cell_at old.world.flash.cells pending.at.0)
   pub others : (other : PageNo) → other.0 ≢ page.0
     → page_bytes new.world other ≡ page_bytes old.world other
   pub done : new.waits ≡ None

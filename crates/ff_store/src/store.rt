@@ -3,7 +3,8 @@ ghost use Rattle.std.specs.Prelude.{◌≡◌, ◌≢◌, ◌*◌, ◌+◌, ◌<
 ghost use Rattle.ff_base.specs.Geometry.{IsWithinLimits};
 ghost use Rattle.ff_base.specs.Page.{blank_page};
 ghost use Rattle.ff_flash.specs.Cells.{IsSealed, cell_at, erased};
-ghost use Rattle.ff_flash.specs.FlashState.{powered_off, stop_of};
+ghost use Rattle.ff_flash.specs.FlashState.{HasOperationsLeft, powered_off};
+ghost use Rattle.ff_flash.specs.Injected.{stop_of};
 ghost use Rattle.ff_flash.specs.declared.flash.FlashStop.TheVariants.{Failed, Off};
 ghost use Rattle.ff_space.specs.BlockTable.{block_at, new_table};
 ghost use Rattle.ff_space.specs.declared.block.BlockState.TheVariants.{Erased, Open};
@@ -20,7 +21,7 @@ use crate::pending::Pending;
 use crate::writing::{WritePlace, drop_old, use_place, write_place};
 use ff_base::{Block, Geometry, NoMemory, PageBuf, PageNo, Ppn};
 use ff_flash::{Flash, FlashStop, Spare};
-use ff_gc::{Collector, Counts, GcStep, Operation};
+use ff_gc::{Collector, Counts, GcStep, OperationKind};
 use ff_map::PageMap;
 use ff_space::BlockTable;
 use std::alloc::Global;
@@ -148,7 +149,7 @@ impl<F: Flash> PageStore<F> {
 
     /// Reads a page. One that isn't mapped is zeros, without a flash operation.
     pub fn fetch(&mut self, page: PageNo, into: &mut PageBuf) -> Result<(), FlashStop>
-        requires life { self.old.world.flash.operations < 2 ^ 63 }
+        requires life { HasOperationsLeft self.old.world.flash }
         ensures off { self.old.world.flash.on ≡ false → (result ≡ Err Off) × (self.new ≡ self.old) }
         ensures call { self.old.world.flash.on ≡ true → IsCall self.old (stop_of result) self.new }
         ensures bytes { IfOk result (λ _. into.new ≡ page_bytes self.old.world page) }
@@ -170,19 +171,19 @@ impl<F: Flash> PageStore<F> {
     }
 
     fn read(&mut self, at: Ppn, into: &mut PageBuf) -> Result<(), FlashStop>
-        requires life { self.old.world.flash.operations < 2 ^ 63 }
+        requires life { HasOperationsLeft self.old.world.flash }
         requires place { at.0 < length self.old.world.flash.cells }
         requires sealed { IsSealed (cell_at self.old.world.flash.cells at.0) }
         ensures { Fetches self.old at into.old result into.new self.new }
     {
-        self.counts.begin(Operation::Read);
+        self.counts.begin(OperationKind::Read);
         self.flash.read(at, into)
     }
 
     /// Makes one step of the flush of a page: programs it, or makes a collection step where no block has a page to
     /// program or one is owed. No flush waits, and the mapped pages with this one are at most the capacity.
     pub fn flush_step(&mut self, page: PageNo, from: &PageBuf) -> Result<FlushStep, FlashStop>
-        requires life { self.old.world.flash.operations < 2 ^ 63 }
+        requires life { HasOperationsLeft self.old.world.flash }
         requires none { self.old.waits ≡ None }
         requires page { page.0 < length self.old.world.places.pages }
         requires room { mapped_with self.old.world.places page ≤ capacity_of self.old.world }
@@ -201,7 +202,7 @@ impl<F: Flash> PageStore<F> {
     }
 
     fn powered_flush(&mut self, page: PageNo, from: &PageBuf) -> Result<FlushStep, FlashStop>
-        requires life { self.old.world.flash.operations < 2 ^ 63 }
+        requires life { HasOperationsLeft self.old.world.flash }
         requires on { self.old.world.flash.on ≡ true }
         requires none { self.old.waits ≡ None }
         requires page { page.0 < length self.old.world.places.pages }
@@ -218,7 +219,7 @@ impl<F: Flash> PageStore<F> {
     }
 
     fn collect_for_flush(&mut self) -> Result<FlushStep, FlashStop>
-        requires life { self.old.world.flash.operations < 2 ^ 63 }
+        requires life { HasOperationsLeft self.old.world.flash }
         requires on { self.old.world.flash.on ≡ true }
         requires none { self.old.waits ≡ None }
         requires now { CollectsNow self.old }
@@ -232,7 +233,7 @@ impl<F: Flash> PageStore<F> {
 
     // Makes one step of the collector. Where it is owed the next one is, until the collection ends.
     fn collect(&mut self, owed: bool) -> Result<GcStep, FlashStop>
-        requires life { self.old.world.flash.operations < 2 ^ 63 }
+        requires life { HasOperationsLeft self.old.world.flash }
         requires on { self.old.world.flash.on ≡ true }
         requires none { self.old.waits ≡ None }
         ensures { Collects owed self.old result self.new }
@@ -249,7 +250,7 @@ impl<F: Flash> PageStore<F> {
 
     // Programs a page, with the next version.
     fn program(&mut self, page: PageNo, from: &PageBuf, place: WritePlace) -> Result<FlushStep, FlashStop>
-        requires life { self.old.world.flash.operations < 2 ^ 63 }
+        requires life { HasOperationsLeft self.old.world.flash }
         requires on { self.old.world.flash.on ≡ true }
         requires none { self.old.waits ≡ None }
         requires page { page.0 < length self.old.world.places.pages }
@@ -259,7 +260,7 @@ impl<F: Flash> PageStore<F> {
         ensures { ProgramsPage self.old page from.now result self.new }
     {
         let version = self.places.draw_version();
-        self.counts.begin(Operation::Program);
+        self.counts.begin(OperationKind::Program);
         match self.flash.program(place.at, from, Spare { page, version }) {
             Ok(()) => {
                 use_place(&mut self.space, place);
@@ -281,7 +282,7 @@ impl<F: Flash> PageStore<F> {
     /// Seals the page that waits: it is stored with the programmed bytes then. `Failed` ends the flush, and the page
     /// keeps its old bytes.
     pub fn seal_step(&mut self) -> Result<FlushStep, FlashStop>
-        requires life { self.old.world.flash.operations < 2 ^ 63 }
+        requires life { HasOperationsLeft self.old.world.flash }
         requires waits { IsTrue (is_some self.old.waits) }
         ensures off { self.old.world.flash.on ≡ false → (result ≡ Err Off) × (self.new ≡ self.old) }
         ensures call { self.old.world.flash.on ≡ true → IsCall self.old (stop_of result) self.new }
@@ -299,12 +300,12 @@ impl<F: Flash> PageStore<F> {
     }
 
     fn seal(&mut self, pending: Pending) -> Result<FlushStep, FlashStop>
-        requires life { self.old.world.flash.operations < 2 ^ 63 }
+        requires life { HasOperationsLeft self.old.world.flash }
         requires on { self.old.world.flash.on ≡ true }
         requires waits { self.old.waits ≡ Some pending }
         ensures { SealsPage self.old pending result self.new }
     {
-        self.counts.begin(Operation::Seal);
+        self.counts.begin(OperationKind::Seal);
         match self.flash.seal(pending.at) {
             Ok(()) => {
                 drop_old(&mut self.space, &self.places, self.per_block, pending.page);
@@ -323,7 +324,7 @@ impl<F: Flash> PageStore<F> {
 
     /// Makes one step of the collector. No flush waits.
     pub fn collect_step(&mut self) -> Result<GcStep, FlashStop>
-        requires life { self.old.world.flash.operations < 2 ^ 63 }
+        requires life { HasOperationsLeft self.old.world.flash }
         requires none { self.old.waits ≡ None }
         ensures off { self.old.world.flash.on ≡ false → (result ≡ Err Off) × (self.new ≡ self.old) }
         ensures call { self.old.world.flash.on ≡ true → IsCall self.old (stop_of result) self.new }
