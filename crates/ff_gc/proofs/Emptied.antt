@@ -1,12 +1,8 @@
 -- A block waits to be erased, and is erased.
-use Rattle.std.proofs.Common.{
-  ◌≡◌, ◌≢◌, ◌<◌, ◌≤◌, ◌+◌, ◌*◌, ◌/◌, ◌%◌, ℕ, true, false, eqb, List, [], length, get_or, Option, Some, None, inl, inr,
-  refl, sym, ap, subst, ◌∙◌, arith
-}
+use Rattle.std.proofs.Common.{◌≡◌, ◌≢◌, ◌<◌, ◌/◌, ℕ, true, List, [], length, Option, Some, None, inl, inr, refl, sym, ap, ◌∙◌, arith}
 use Rattle.std.specs.Prelude.{Result, Ok, Err}
 use Rattle.std.proofs.lemmas.Bool.{cases_eq, eq-eqb, both_ways}
 use Rattle.ff_base.specs.declared.numbers.Block.{Block}
-use Rattle.ff_base.specs.declared.numbers.PageNo.{PageNo}
 use Rattle.ff_flash.proofs.OperationCells.{erase_elsewhere, erase_failed, erase_length, erase_worked}
 use Rattle.ff_flash.specs.Cells.{Cell, cell_at, erased}
 use Rattle.ff_flash.specs.declared.flash.FlashStop.{FlashStop}
@@ -17,7 +13,6 @@ use Rattle.ff_space.proofs.Changed.{
 use Rattle.ff_space.specs.Blocks.{erased_block, waiting}
 use Rattle.ff_space.specs.BlockTable.{IsInState, TableView, block_at, changed_at}
 use Rattle.ff_space.specs.declared.block.BlockEntry.{BlockEntry}
-use Rattle.ff_space.specs.declared.block.BlockState.{BlockState}
 use Rattle.ff_space.specs.declared.block.BlockState.TheVariants.{Erased, Full, Held, Waiting}
 use Rattle.ff_map.specs.PageMap.{MapView, mapping_of}
 use Rattle.ff_map.specs.declared.places.Mapping.{Mapping}
@@ -30,14 +25,13 @@ use Rattle.ff_gc.proofs.Tables.{
 }
 use Rattle.ff_gc.specs.Cells.{HasNoPage}
 use Rattle.ff_gc.specs.Collector.{CollectorView}
-use Rattle.ff_gc.specs.Running.{IsAt, IsEmptying, IsIdle, IsLive, IsTabled, is_in, mapped_in}
+use Rattle.ff_gc.specs.Running.{IsEmptying, IsLive, IsTabled, is_in, mapped_in}
 use Rattle.ff_gc.specs.Steps.{ErasesBlock, emptying, given_up}
 use Rattle.ff_gc.specs.World.{IsReady, Keeps, World}
 use Rattle.ff_gc.specs.declared.collector.GcStep.{GcStep}
 use Rattle.ff_gc.specs.declared.counts.OperationKind.TheVariants.{Erase}
 use Rattle.ff_gc.specs.declared.phase.Job.{Job}
 use Rattle.ff_gc.specs.declared.phase.Original.{Original}
-use Rattle.ff_gc.specs.declared.phase.Phase.{Phase}
 use Rattle.ff_gc.specs.declared.phase.Phase.TheVariants.{Aborting, Erasing, Idle, Programming}
 
 -- where no mapped page of a block is counted, none is mapped there

@@ -1,19 +1,18 @@
 -- What a step keeps, put together.
-use Rattle.std.proofs.Common.{◌≡◌, ◌<◌, ◌≤◌, ◌+◌, ◌*◌, ℕ, true, List, length, Option, Some, refl, sym, ap, ◌∙◌, arith}
+use Rattle.std.proofs.Common.{◌≡◌, ℕ, true, length, Option, Some, refl, sym, ap, ◌∙◌}
 use Rattle.ff_flash.proofs.Operated.{off_after, operations_rise}
 use Rattle.ff_flash.specs.FlashState.{FlashState, Operates}
 use Rattle.ff_flash.specs.declared.flash.FlashStop.{FlashStop}
 use Rattle.ff_flash.specs.declared.flash.FlashStop.TheVariants.{Off}
 use Rattle.ff_space.proofs.Changed.{length-changed_at}
-use Rattle.ff_space.specs.BlockTable.{TableView, changed_at}
+use Rattle.ff_space.specs.BlockTable.{changed_at}
 use Rattle.ff_space.specs.declared.block.BlockEntry.{BlockEntry}
 use Rattle.ff_map.specs.PageMap.{MapView, mapping_of, version_of}
 use Rattle.ff_gc.proofs.Retaining.{Retains, bytes_retained, safe_retained}
-use Rattle.ff_gc.specs.Cells.{IsSafe}
 use Rattle.ff_gc.specs.Collector.{CollectorView}
 use Rattle.ff_gc.specs.Running.{IsLive}
 use Rattle.ff_gc.specs.Steps.{Makes}
-use Rattle.ff_gc.specs.World.{Fits, IsReady, Keeps, SamePages, World, mapped_bytes}
+use Rattle.ff_gc.specs.World.{IsReady, Keeps, SamePages, World, mapped_bytes}
 use Rattle.ff_gc.specs.declared.counts.OperationKind.{OperationKind}
 
 -- an operation of the flash that seals nothing but copies and loses no mapped page

@@ -1,3 +1,4 @@
+pub mod Begun
 pub mod Counting
 pub mod Emptied
 pub mod Keeping
@@ -5,4 +6,6 @@ pub mod Numbers
 pub mod PageCopies
 pub mod PageSeals
 pub mod Retaining
+pub mod Stepping
+pub mod Switched
 pub mod Tables

@@ -1,7 +1,5 @@
 -- A page of the victim is read, and its copy is programmed.
-use Rattle.std.proofs.Common.{
-  ◌≡◌, ◌≢◌, ◌<◌, ◌≤◌, ◌+◌, ◌*◌, ◌/◌, ◌%◌, ℕ, true, List, length, Option, Some, None, refl, sym, ap, subst, ◌∙◌, arith
-}
+use Rattle.std.proofs.Common.{◌≡◌, ◌≢◌, ◌<◌, ◌+◌, ◌*◌, ◌/◌, ◌%◌, ℕ, List, length, Some, None, refl, sym, ap, subst, ◌∙◌, arith}
 use Rattle.std.specs.Prelude.{Result, Ok, Err}
 use Rattle.std.proofs.lemmas.Option.{same_Some}
 use Rattle.ff_base.specs.declared.numbers.PageNo.{PageNo}
@@ -9,7 +7,6 @@ use Rattle.ff_base.specs.declared.numbers.Ppn.{Ppn}
 use Rattle.ff_flash.proofs.OperationCells.{program_elsewhere, program_keeps_sealed, program_length, program_worked}
 use Rattle.ff_flash.proofs.SealedCells.{erased_unsealed}
 use Rattle.ff_flash.specs.Cells.{Cell, IsSealed, Programs, cell_at, cell_bytes, erased, sealed}
-use Rattle.ff_flash.specs.Injected.{stop_of}
 use Rattle.ff_flash.specs.declared.flash.FlashStop.{FlashStop}
 use Rattle.ff_flash.specs.declared.flash.FlashStop.TheVariants.{Failed, Off}
 use Rattle.ff_flash.specs.declared.spare.Spare.{Spare}
@@ -29,10 +26,8 @@ use Rattle.ff_gc.proofs.Tables.{KeepsPages, none_after, only_changed, state_afte
 use Rattle.ff_gc.specs.Cells.{AreMapped}
 use Rattle.ff_gc.specs.Collector.{CollectorView}
 use Rattle.ff_gc.specs.Originals.{IsNext, spare_in}
-use Rattle.ff_gc.specs.Running.{
-  AreBlocks, AreCopies, HasStale, HasStaleBeside, IsAt, IsCopying, IsInHand, IsLive, IsProgramming, IsReading, IsTabled
-}
-use Rattle.ff_gc.specs.Steps.{ProgramsCopy, ReadsPage, next_place, operation_of}
+use Rattle.ff_gc.specs.Running.{AreBlocks, AreCopies, HasStale, HasStaleBeside, IsAt, IsInHand, IsLive, IsProgramming, IsReading, IsTabled}
+use Rattle.ff_gc.specs.Steps.{ProgramsCopy, ReadsPage, next_place}
 use Rattle.ff_gc.specs.World.{IsReady, Keeps, World}
 use Rattle.ff_gc.specs.declared.collector.GcStep.{GcStep}
 use Rattle.ff_gc.specs.declared.counts.OperationKind.TheVariants.{Read, Program}

@@ -1,38 +1,31 @@
 -- The copy of a page is sealed.
-use Rattle.std.proofs.Common.{
-  ◌≡◌, ◌≢◌, ◌<◌, ◌≤◌, ◌+◌, ◌*◌, ◌/◌, ◌%◌, ℕ, true, List, [], ◌∷◌, ◌++◌, length, get_or, set, Option, Some, None, inl,
-  inr, refl, sym, ap, subst, ◌∙◌, arith
-}
-use Rattle.std.specs.Prelude.{All, Any, Result, Ok, Err}
+use Rattle.std.proofs.Common.{◌≡◌, ◌≢◌, ◌<◌, ◌≤◌, ◌+◌, ◌*◌, ◌/◌, ◌%◌, ℕ, List, [], ◌∷◌, ◌++◌, length, set, Some, None, inl, inr, refl, sym, ap, subst, ◌∙◌, arith}
+use Rattle.std.specs.Prelude.{Any, Result, Ok, Err}
 use Rattle.std.proofs.lemmas.Bool.{cases_lt}
 use Rattle.std.proofs.lemmas.List.{get_or_append_left, length_push}
 use Rattle.std.proofs.lemmas.List.Elements.{All-push}
 use Rattle.std.proofs.lemmas.List.Quantifiers.{Any-push, all_pairs_push}
 use Rattle.std.proofs.lemmas.Nat.{mod_below}
-use Rattle.ff_base.specs.declared.numbers.PageNo.{PageNo}
 use Rattle.ff_base.specs.declared.numbers.Ppn.{Ppn}
 use Rattle.ff_flash.proofs.OperationCells.{seal_failed, seal_worked}
 use Rattle.ff_flash.proofs.SealedCells.{closed_unsealed, closed_within, sealed_apart, sealed_stays}
-use Rattle.ff_flash.specs.Cells.{Cell, cell_at, cell_bytes, closed, erased, sealed}
+use Rattle.ff_flash.specs.Cells.{Cell, cell_at, closed, erased, sealed}
 use Rattle.ff_flash.specs.declared.flash.FlashStop.{FlashStop}
 use Rattle.ff_flash.specs.declared.flash.FlashStop.TheVariants.{Failed, Off}
 use Rattle.ff_flash.specs.declared.spare.Spare.{Spare}
 use Rattle.ff_space.specs.BlockTable.{TableView}
-use Rattle.ff_map.specs.PageMap.{MapView, mapping_of}
-use Rattle.ff_map.specs.declared.places.Mapping.{Mapping}
+use Rattle.ff_map.specs.PageMap.{MapView}
 use Rattle.ff_map.specs.declared.places.Move.{Move}
 use Rattle.ff_gc.proofs.Keeping.{not_off, operated}
 use Rattle.ff_gc.proofs.Numbers.{place_is}
-use Rattle.ff_gc.proofs.PageCopies.{KeepsSealed, at_phase, copies_kept, same_page}
+use Rattle.ff_gc.proofs.PageCopies.{KeepsSealed, at_phase, copies_kept}
 use Rattle.ff_gc.proofs.Retaining.{cell_at-set, cell_at-set_other, retains_seals}
 use Rattle.ff_gc.proofs.Tables.{tabled_cells}
 use Rattle.ff_gc.specs.Cells.{AreMapped}
 use Rattle.ff_gc.specs.Collector.{CollectorView}
 use Rattle.ff_gc.specs.Originals.{IsAfter, move_to, past, spare_in}
-use Rattle.ff_gc.specs.Running.{
-  AreCopies, HasStale, HasStaleBeside, IsAt, IsCopy, IsInHand, IsLive, IsReading, IsSealing, IsTabled
-}
-use Rattle.ff_gc.specs.Steps.{SealsCopy, operation_of}
+use Rattle.ff_gc.specs.Running.{AreCopies, HasStale, HasStaleBeside, IsAt, IsCopy, IsLive, IsReading, IsSealing, IsTabled}
+use Rattle.ff_gc.specs.Steps.{SealsCopy}
 use Rattle.ff_gc.specs.World.{IsReady, Keeps, World}
 use Rattle.ff_gc.specs.declared.collector.GcStep.{GcStep}
 use Rattle.ff_gc.specs.declared.counts.OperationKind.TheVariants.{Seal}

@@ -1,7 +1,5 @@
 -- What holds of a block table after one of its blocks was changed.
-use Rattle.std.proofs.Common.{
-  ◌≡◌, ◌≢◌, ◌<◌, ◌≤◌, ◌+◌, ◌*◌, ◌/◌, ◌%◌, ℕ, List, length, inl, inr, refl, sym, ap, subst, ◌∙◌, arith
-}
+use Rattle.std.proofs.Common.{◌≡◌, ◌≢◌, ◌<◌, ◌≤◌, ◌+◌, ◌/◌, ◌%◌, ℕ, List, length, inl, inr, sym, ap, subst, ◌∙◌, arith}
 use Rattle.std.proofs.lemmas.Bool.{cases_eq}
 use Rattle.ff_flash.specs.Cells.{Cell, cell_at, erased}
 use Rattle.ff_space.proofs.Changed.{

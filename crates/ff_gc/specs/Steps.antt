@@ -1,5 +1,5 @@
 -- The one step that a collector makes, by what it does next.
-use Rattle.std.specs.Prelude.{ℕ, ◌+◌, ◌*◌, ◌<◌, ◌≡◌, ◌≢◌, true, List, [], ◌∷◌, ◌++◌, length, Option, None, Some, Result, Ok, Err, IfOk}
+use Rattle.std.specs.Prelude.{ℕ, ◌+◌, ◌*◌, ◌<◌, ◌≤◌, ◌≡◌, true, List, [], ◌∷◌, ◌++◌, Option, None, Result, Ok, Err, IfOk}
 use Rattle.ff_base.specs.declared.numbers.Block.{Block}
 use Rattle.ff_base.specs.declared.numbers.Ppn.{Ppn}
 use Rattle.ff_flash.specs.Cells.{Erases, Programs, ReadsBytes, Seals}
@@ -134,7 +134,7 @@ given_up w job = record w { gc = record w.gc { phase = Aborting job.into; moves 
 pub data ProgramsNext (old : World) (job : Job) (original : Original) (result : Result GcStep FlashStop) (new : World) : Type 0 where
   programs : (block_at old.table job.into.0).next < old.gc.per_block → ProgramsCopy old job original result new
     → ProgramsNext old job original result new
-  full : (block_at old.table job.into.0).next ≡ old.gc.per_block → ErasesBlock (given_up old job) job.into Aborted result new
+  full : old.gc.per_block ≤ (block_at old.table job.into.0).next → ErasesBlock (given_up old job) job.into Aborted result new
     → ProgramsNext old job original result new
 
 -- a block without mapped pages waits to be erased

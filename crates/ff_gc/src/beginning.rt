@@ -56,6 +56,7 @@ impl Collector {
         ensures { Begins (world_of self.old (F.state flash.old) space.old map.old counts.old) result
             (world_of self.new (F.state flash.new) space.new map.new counts.new) }
     {
+        space.known();
         if space.mapped(victim) == 0 {
             self.phase = Phase::Erasing(victim);
             space.wait_erase(victim);

@@ -111,6 +111,7 @@ impl Collector {
         if !flash.is_on() {
             return Err(FlashStop::Off);
         }
+        space.known();
         self.powered_step(flash, space, map, counts)
     }
 

@@ -72,6 +72,7 @@ fn original_at(map: &PageMap, from: Ppn) -> Option<Original>
 }
 
 /// What is next in a collection that copies.
+#[tactic(auto, using(crate::proofs::Stepping::not_all_seen))]
 pub fn phase_after(map: &PageMap, per_block: u32, job: Job) -> Phase
     requires some { 0 < per_block }
     requires seen { job.seen ≤ per_block }

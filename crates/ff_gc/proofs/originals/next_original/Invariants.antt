@@ -1,7 +1,4 @@
-use Rattle.std.proofs.Common.{◌≡◌, ◌+◌, ◌*◌, ◌<◌, ℕ, Some}
-use Rattle.ff_base.specs.declared.numbers.PageNo.{PageNo}
-use Rattle.ff_map.specs.PageMap.{mapping_of}
-use Rattle.ff_map.specs.declared.places.Mapping.{Mapping}
+use Rattle.std.proofs.Common.{◌≡◌, ◌*◌}
 use Rattle.ff_gc.specs.Originals.{IsPassed}
 use Rattle.ff_gc.proofs.originals.next_original.Given as goal
 
