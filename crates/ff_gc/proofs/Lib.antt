@@ -1,6 +1,7 @@
 pub mod Begun
 pub mod Counting
 pub mod Emptied
+pub mod Falling
 pub mod Keeping
 pub mod Numbers
 pub mod PageCopies
@@ -9,3 +10,4 @@ pub mod Retaining
 pub mod Stepping
 pub mod Switched
 pub mod Tables
+pub mod Takings
