@@ -151,7 +151,7 @@ at_after gc cells table places job (Erasing block) after reading = absurd after
 at_after gc cells table places job (Aborting block) after reading = absurd after
 
 -- a page that isn't erased is sealed
-tabled_sealed : (per : ℕ) (table : TableView) (cells : List Cell) (places : MapView) (at : ℕ) (bytes : List ℕ)
+pub tabled_sealed : (per : ℕ) (table : TableView) (cells : List Cell) (places : MapView) (at : ℕ) (bytes : List ℕ)
     (spare : Spare) (cell : Cell) → cell_at cells at ≡ closed bytes spare → length (set cells at cell) ≡ length cells
     → IsTabled per table cells places → IsTabled per table (set cells at cell) places
 tabled_sealed per table cells places at bytes spare cell is size t =

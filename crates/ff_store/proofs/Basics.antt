@@ -1,10 +1,10 @@
 -- What every call's proof needs of a store.
 use Rattle.std.proofs.Common.{
-  ◌≡◌, ◌≢◌, ◌<◌, ◌≤◌, ◌+◌, ◌*◌, ◌/◌, ℕ, Bool, true, false, List, length, get_or, Option, None, Some, inl, inr, refl, sym, ap, subst, ◌∙◌,
+  ◌≡◌, ◌≢◌, ◌<◌, ◌≤◌, ◌+◌, ◌*◌, ◌/◌, ℕ, Bool, true, false, cond, List, length, get_or, Option, None, Some, inl, inr, refl, sym, ap, subst, ◌∙◌,
   arith
 }
 use Rattle.std.specs.Prelude.{◌&&◌, Result, is_some, option_map}
-use Rattle.std.proofs.lemmas.Bool.{and_parts, cases_Bool}
+use Rattle.std.proofs.lemmas.Bool.{and_parts}
 use Rattle.std.proofs.lemmas.Option.{none-some}
 use Rattle.ff_flash.proofs.Operated.{operations_rise, was_on}
 use Rattle.ff_flash.specs.Cells.{Cell, cell_at}
@@ -244,18 +244,23 @@ read_sound s flash counts kind stop sound on cells m =
     }
 
 -- the power is turned off
+off_on_by : (flash : FlashState) (was : Bool) → flash.on ≡ was
+    → (cond was (record flash { on = false; cut = false }) flash).on ≡ true → ⊥
+off_on_by flash true is on = cc
+off_on_by flash false is on = cc
+
 off_on : (flash : FlashState) → (powered_off flash).on ≡ true → ⊥
-off_on flash on = elim (cases_Bool flash.on) [
-  | inl was ↦ (let now : false ≡ true = rw was at on in cc)
-  | inr was ↦ (let now : flash.on ≡ true = rw was at on in cc)
-]
+off_on flash on = off_on_by flash flash.on refl on
+
+off_same_by : {X : Type 0} (field : FlashState → X) (flash : FlashState) (was : Bool)
+    → field (record flash { on = false; cut = false }) ≡ field flash
+    → field (cond was (record flash { on = false; cut = false }) flash) ≡ field flash
+off_same_by field flash true same = same
+off_same_by field flash false same = refl
 
 off_same : {X : Type 0} (field : FlashState → X) (flash : FlashState)
     → field (record flash { on = false; cut = false }) ≡ field flash → field (powered_off flash) ≡ field flash
-off_same field flash same = elim (cases_Bool flash.on) [
-  | inl was ↦ rw was same
-  | inr was ↦ rw was refl
-]
+off_same field flash same = off_same_by field flash flash.on same
 
 pub off_sound : (s : PageStoreView) → IsStoreSound s
     → IsStoreSound (record s { world = record s.world { flash = powered_off s.world.flash } })
