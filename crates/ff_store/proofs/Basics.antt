@@ -3,11 +3,11 @@ use Rattle.std.proofs.Common.{
   ◌≡◌, ◌≢◌, ◌<◌, ◌≤◌, ◌+◌, ◌*◌, ◌/◌, ℕ, Bool, true, false, cond, List, length, get_or, Option, None, Some, inl, inr, refl, sym, ap, subst, ◌∙◌,
   arith
 }
-use Rattle.std.specs.Prelude.{◌&&◌, Result, is_some, option_map}
+use Rattle.std.specs.Prelude.{◌&&◌, Err, Ok, Result, is_some, option_map}
 use Rattle.std.proofs.lemmas.Bool.{and_parts}
 use Rattle.std.proofs.lemmas.Option.{none-some}
 use Rattle.ff_flash.proofs.Operated.{operations_rise, was_on}
-use Rattle.ff_flash.specs.Cells.{Cell, cell_at}
+use Rattle.ff_flash.specs.Cells.{Cell, ReadsBytes, cell_at}
 use Rattle.ff_flash.specs.FlashState.{FlashState, Operates, powered_off}
 use Rattle.ff_flash.specs.Injected.{stop_of}
 use Rattle.ff_flash.specs.declared.flash.FlashStop.{FlashStop}
@@ -29,7 +29,7 @@ use Rattle.ff_store.specs.Calls.{Collects, IsCall, SameBytes, SameStore}
 use Rattle.ff_store.specs.PageStore.{
   IsAlways, IsElsewhere, IsPending, IsRunning, IsStoreSound, IsWaiting, PageStoreView, pages_with, unmapped_of
 }
-use Rattle.ff_store.specs.Pages.{capacity_of, mapped_count}
+use Rattle.ff_store.specs.Pages.{page_capacity, mapped_count}
 use Rattle.ff_store.specs.declared.pending.Pending.{Pending}
 
 -- with the power on the map knows all that is sealed
@@ -119,7 +119,7 @@ collected_sound s new owed step sound on none keeps r =
     let room = sound.always.room in
     let room2 = rw none at room in
     let count : mapped_count new.places ≡ mapped_count s.world.places = count_kept s.world new keeps in
-    let capacity : capacity_of new ≡ capacity_of s.world =
+    let capacity : page_capacity new ≡ page_capacity s.world =
     rw (keeps.same.blocks, keeps.same.per_block) refl in
     record {
       fits = keeps.fits;
@@ -293,3 +293,9 @@ off_sound s sound =
       owed = sound.owed;
       counted = sound.counted ∙ sym operations;
     }
+
+-- a read changes no cell
+pub reads_same : (cells : List Cell) (at : ℕ) (before : List ℕ) (result : Result (Unit {0}) FlashStop) (after : List ℕ)
+    (new : List Cell) → ReadsBytes cells at before result after new → new ≡ cells
+reads_same cells at before (Ok _) after new r = r.1
+reads_same cells at before (Err stop) after new r = r.1

@@ -50,16 +50,16 @@ use Rattle.ff_store.proofs.Around.{IsAside, at_aside, not_victim}
 use Rattle.ff_store.proofs.Basics.{counted_after, elsewhere_none, ready_in, waiting_none}
 use Rattle.ff_store.specs.Calls.{IsWritePlace, opened_block, pending_at}
 use Rattle.ff_store.specs.PageStore.{IsPending, IsStoreSound, PageStoreView, spare_of}
-use Rattle.ff_store.specs.Pages.{capacity_of, mapped_count, mapped_with}
+use Rattle.ff_store.specs.Pages.{page_capacity, mapped_count, mapped_with}
 use Rattle.ff_store.specs.declared.pending.Pending.{Pending}
 
-record Found {X : Type 0} (p : X → Bool) (xs : List X) (d : X) : Type 0 where
+pub record Found {X : Type 0} (p : X → Bool) (xs : List X) (d : X) : Type 0 where
   pub index : ℕ
   pub within : index < length xs
   pub passes : p (get_or xs index d) ≡ true
 
 -- where some are counted, one passes
-found_of : {X : Type 0} (p : X → Bool) (xs : List X) (d : X) → 0 < count_by p xs → Found p xs d
+pub found_of : {X : Type 0} (p : X → Bool) (xs : List X) (d : X) → 0 < count_by p xs → Found p xs d
 found_of p [] d some = absurd (omega arith)
 found_of p (x ∷ xs) d some = elim (cases_Bool (p x)) [
   | inl hit ↦ record { index = 0; within = omega arith; passes = hit }
@@ -404,7 +404,7 @@ flushed_pending s flash counts page bytes block at ready t size programs =
 
 pub flushed_ok : (s : PageStoreView) (flash : FlashState) (counts : Counts) (page : PageNo) (bytes : List ℕ) (block : ℕ)
     (at : Ppn) → IsStoreSound s → s.world.flash.on ≡ true → IsTableSound s.world.table
-    → page.0 < length s.world.places.pages → mapped_with s.world.places page ≤ capacity_of s.world
+    → page.0 < length s.world.places.pages → mapped_with s.world.places page ≤ page_capacity s.world
     → length bytes ≡ PAGE_BYTES → IsWritePlace s.world.table block at.0
     → Makes Program s.world None (record s.world { flash = flash; counts = counts })
     → Programs s.world.flash.cells at.0 bytes (spare_of (pending_at page at s.world.places)) (Ok tt) flash.cells
@@ -456,7 +456,7 @@ with_count places page = omega arith
 
 pub flushed_failed : (s : PageStoreView) (flash : FlashState) (counts : Counts) (page : PageNo) (bytes : List ℕ) (block : ℕ)
     (at : Ppn) → IsStoreSound s → s.world.flash.on ≡ true → s.waits ≡ None → IsTableSound s.world.table
-    → mapped_with s.world.places page ≤ capacity_of s.world → IsWritePlace s.world.table block at.0
+    → mapped_with s.world.places page ≤ page_capacity s.world → IsWritePlace s.world.table block at.0
     → Makes Program s.world (Some Failed) (record s.world { flash = flash; counts = counts })
     → Programs s.world.flash.cells at.0 bytes (spare_of (pending_at page at s.world.places)) (Err Failed) flash.cells
     → IsStoreSound (flushed_store s flash counts block s.waits)
@@ -469,7 +469,7 @@ flushed_failed s flash counts page bytes block at sound on none table room place
     let blocks = length-changed_at w.table block change in
     let safe = flushed_safe w flash counts block at.0 bytes (spare_of p) (Err Failed) (Some Failed) ready t m programs in
     let few = with_count w.places page in
-    let enough : mapped_count w.places ≤ capacity_of w = omega arith in
+    let enough : mapped_count w.places ≤ page_capacity w = omega arith in
     record {
       fits = flushed_fits w flash counts (flushed_table w block) (Some Failed) sound.fits m.flash
           (program_length w.flash.cells at.0 bytes (spare_of p) (Err Failed) flash.cells programs) blocks refl;
@@ -490,7 +490,7 @@ flushed_failed s flash counts page bytes block at sound on none table room place
 
 pub flushed_off : (s : PageStoreView) (flash : FlashState) (counts : Counts) (page : PageNo) (bytes : List ℕ) (block : ℕ)
     (at : Ppn) → IsStoreSound s → s.world.flash.on ≡ true → s.waits ≡ None → IsTableSound s.world.table
-    → mapped_with s.world.places page ≤ capacity_of s.world → IsWritePlace s.world.table block at.0
+    → mapped_with s.world.places page ≤ page_capacity s.world → IsWritePlace s.world.table block at.0
     → Makes Program s.world (Some Off) (record s.world { flash = flash; counts = counts })
     → Programs s.world.flash.cells at.0 bytes (spare_of (pending_at page at s.world.places)) (Err Off) flash.cells
     → IsStoreSound (record s { world = record s.world { flash = flash; counts = counts; places = drawn_map s.world.places } })
@@ -501,7 +501,7 @@ flushed_off s flash counts page bytes block at sound on none table room place m 
     let p = pending_at page at w.places in
     let safe = flushed_safe w flash counts block at.0 bytes (spare_of p) (Err Off) (Some Off) ready t m programs in
     let few = with_count w.places page in
-    let enough : mapped_count w.places ≤ capacity_of w = omega arith in
+    let enough : mapped_count w.places ≤ page_capacity w = omega arith in
     record {
       fits = flushed_fits w flash counts w.table (Some Off) sound.fits m.flash
           (program_length w.flash.cells at.0 bytes (spare_of p) (Err Off) flash.cells programs) refl refl;

@@ -117,7 +117,7 @@ next_times k per =
     let more : per * (suc k) ≡ per * k + per = omega arith in omega arith
 
 less_times : (n per : ℕ) → 0 < n → n * per ≡ (n - 1) * per + per
-less_times (suc k) per some = next_times k per
+less_times (suc k) per some = let e : suc k - 1 ≡ k = omega arith in rw e (next_times k per)
 less_times zero per some = absurd (omega arith)
 
 times_least : (k per : ℕ) → 0 < k → per ≤ k * per

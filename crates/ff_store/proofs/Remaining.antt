@@ -4,9 +4,9 @@ use Rattle.std.proofs.Common.{
   ◌∙◌, arith
 }
 use Rattle.std.specs.Prelude.{◌⊎◌, Result, Ok, not, if◌then◌else◌}
-use Rattle.std.proofs.lemmas.Bool.{cases_Bool, cases_lt, eq-eqb, eqb-true, ne_eqb, not-true}
+use Rattle.std.proofs.lemmas.Bool.{both_ways, cases_Bool, cases_lt, eq-eqb, eqb-true, ne_eqb}
 use Rattle.ff_flash.specs.declared.flash.FlashStop.{FlashStop}
-use Rattle.ff_space.proofs.Changed.{count_by-some}
+use Rattle.ff_space.specs.Blocks.{erased_block, waiting}
 use Rattle.ff_space.specs.BlockTable.{IsInState, IsTableSound, TableView, block_at, erased_count}
 use Rattle.ff_space.specs.Choices.{IsNoPlace}
 use Rattle.ff_space.specs.declared.block.BlockEntry.{BlockEntry}
@@ -111,3 +111,71 @@ open_of Open is = refl
 open_of Full is = absurd (cc)
 open_of Held is = absurd (cc)
 open_of Waiting is = absurd (cc)
+
+-- no block is open
+none_open : (table : TableView) → IsNoPlace table → open_count table.blocks ≡ 0
+none_open table nowhere = elim (cases_lt 0 (open_count table.blocks)) [
+  | inl some ↦
+      let p : BlockEntry → Bool = λ (e : BlockEntry). is_open e.state in
+      let found = found_of p table.blocks (waiting erased_block) some in
+      absurd (nowhere.none_open found.index (record {
+        in_range = found.within;
+        state = open_of (block_at table found.index).state found.passes;
+      }))
+  | inr none ↦ omega arith
+]
+
+idle_ends_not : (table : TableView) (moves : List Move) → IsNoPlace table → is_ending moves table Idle ≡ false
+idle_ends_not table moves nowhere = elim (cases_Bool (is_ending moves table Idle)) [
+  | inl hit ↦
+      let some = true_ending moves table Idle hit in
+      let none = none_open table nowhere in
+      let few = nowhere.few in
+      absurd (omega arith)
+  | inr miss ↦ miss
+]
+
+busy_falls : (old new : World) (step : GcStep) → IsTableSound old.table → IsReady old → is_busy old.gc.phase ≡ true
+    → step ≢ IdleStep → IsStep old (Ok step) new → new.gc.per_block ≡ old.gc.per_block → left_of new < left_of old
+busy_falls old new step sound ready busy other r per =
+    let fall = steps_fall old new step ready other r in
+    let from = from_busy old.gc.per_block old.gc.phase busy in
+    let same : left_in new.gc.per_block new.gc.phase ≡ left_in old.gc.per_block new.gc.phase =
+    ap (λ n. left_in n new.gc.phase) per in
+    let bound = left_bound new in
+    elim (cases_Bool (is_ending old.gc.moves old.table old.gc.phase)) [
+      | inl hit ↦
+          let ends = steps_end old new step sound ready other r (inr (true_ending old.gc.moves old.table old.gc.phase hit)) in
+          let now = left_ending new (ending_true new.gc.moves new.table new.gc.phase ends) in
+          let before = left_ending old hit in
+          omega arith
+      | inr miss ↦ (let before = left_other old miss in omega arith)
+    ]
+
+idle_falls : (old new : World) (step : GcStep) → IsTableSound old.table → IsReady old → old.gc.phase ≡ Idle
+    → IsNoPlace old.table → step ≢ IdleStep → IsStep old (Ok step) new → new.gc.per_block ≡ old.gc.per_block
+    → left_of new < left_of old
+idle_falls old new step sound ready idle nowhere other r per =
+    let fall = steps_fall old new step ready other r in
+    let from : left_from old.gc.per_block old.gc.phase ≡ 3 * old.gc.per_block + 3 =
+    ap (λ q. left_from old.gc.per_block q) idle in
+    let same : left_in new.gc.per_block new.gc.phase ≡ left_in old.gc.per_block new.gc.phase =
+    ap (λ n. left_in n new.gc.phase) per in
+    let ends = steps_end old new step sound ready other r (inl idle) in
+    let now = left_ending new (ending_true new.gc.moves new.table new.gc.phase ends) in
+    let miss : is_ending old.gc.moves old.table old.gc.phase ≡ false =
+    ap (λ q. is_ending old.gc.moves old.table q) idle ∙ idle_ends_not old.table old.gc.moves nowhere in
+    let before = left_other old miss in
+    omega arith
+
+-- a collection step of a flush that worked leaves fewer of them
+pub left_falls : (old new : World) (step : GcStep) → IsTableSound old.table → IsReady old
+    → (is_busy old.gc.phase ≡ true) ⊎ IsNoPlace old.table → step ≢ IdleStep → IsStep old (Ok step) new
+    → new.gc.per_block ≡ old.gc.per_block → left_of new < left_of old
+left_falls old new step sound ready why other r per = elim (cases_Bool (is_busy old.gc.phase)) [
+  | inl busy ↦ busy_falls old new step sound ready busy other r per
+  | inr not_busy ↦ elim why [
+      | inl busy ↦ absurd (both_ways (is_busy old.gc.phase) not_busy busy)
+      | inr nowhere ↦ idle_falls old new step sound ready (idle_of old.gc.phase not_busy) nowhere other r per
+    ]
+]

@@ -48,7 +48,7 @@ use Rattle.ff_store.specs.Calls.{dropped, new_mapping, placed_table}
 use Rattle.ff_store.specs.PageStore.{
   IsElsewhere, IsPending, IsStoreSound, IsWaiting, PageStoreView, spare_of, unmapped_of
 }
-use Rattle.ff_store.specs.Pages.{capacity_of, is_mapped, mapped_count, mapped_with}
+use Rattle.ff_store.specs.Pages.{page_capacity, is_mapped, mapped_count, mapped_with}
 use Rattle.ff_store.specs.declared.pending.Pending.{Pending}
 
 elsewhere_some : (waits : Option Pending) (p : Pending) (per block : ℕ) → waits ≡ Some p → IsElsewhere per waits block
@@ -181,7 +181,7 @@ settled_ok s flash counts p sound on waits m seals =
     let count = mapped_count_with world.places p.page (new_mapping p) page in
     let mapped = mapped_all s p w (sound.running on).mapped page in
     let all = sealed_all s p flash.operations w sound.always.safe.sealed_cells page (omega arith) (omega arith) in
-    let capacity : mapped_count (settled_map s p) ≤ capacity_of world = omega arith in
+    let capacity : mapped_count (settled_map s p) ≤ page_capacity world = omega arith in
     record {
       fits = record {
         per_block = m.flash.same.per_block ∙ sound.fits.per_block;

@@ -44,7 +44,7 @@ use Rattle.ff_store.specs.Calls.{dropped, new_mapping, placed_table}
 use Rattle.ff_store.specs.PageStore.{
   IsElsewhere, IsPending, IsStoreSound, IsWaiting, PageStoreView, spare_of, unmapped_of
 }
-use Rattle.ff_store.specs.Pages.{capacity_of, is_mapped, mapped_count, mapped_with}
+use Rattle.ff_store.specs.Pages.{page_capacity, is_mapped, mapped_count, mapped_with}
 use Rattle.ff_store.specs.declared.pending.Pending.{Pending}
 
 pub pending_in : (s : PageStoreView) (p : Pending) → IsStoreSound s → s.world.flash.on ≡ true → s.waits ≡ Some p

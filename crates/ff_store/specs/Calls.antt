@@ -135,9 +135,9 @@ pub record CollectsFor (old : PageStoreView) (result : Result FlushStep FlashSto
 -- one step of a flush
 pub data Flushes (old : PageStoreView) (page : PageNo) (bytes : List ℕ)
     (result : Result FlushStep FlashStop) (new : PageStoreView) : Type 0 where
-  programs : (CollectsNow old → ⊥) → ProgramsPage old page bytes result new
+  programs_flush : (CollectsNow old → ⊥) → ProgramsPage old page bytes result new
     → Flushes old page bytes result new
-  collects : CollectsNow old → CollectsFor old result new → Flushes old page bytes result new
+  collects_flush : CollectsNow old → CollectsFor old result new → Flushes old page bytes result new
 
 -- the page is to be sealed, with these bytes
 pub record IsProgrammed (s : PageStoreView) (page : PageNo) (bytes : List ℕ) : Type 0 where

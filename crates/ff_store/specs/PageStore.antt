@@ -18,7 +18,7 @@ use Rattle.ff_gc.specs.Running.{IsLive}
 use Rattle.ff_gc.specs.World.{Fits, World}
 use Rattle.ff_gc.specs.declared.phase.Phase.{Phase}
 use Rattle.ff_gc.specs.declared.phase.Phase.TheVariants.{Reading, Programming, Sealing, Commit}
-use Rattle.ff_store.specs.Pages.{capacity_of, mapped_count, mapped_with}
+use Rattle.ff_store.specs.Pages.{page_capacity, mapped_count, mapped_with}
 use Rattle.ff_store.specs.declared.pending.Pending.{Pending}
 
 -- the collector with all that it works on, the flush that is to be sealed, whether a collection step is owed, at how
@@ -71,7 +71,7 @@ pub record IsAlways (s : PageStoreView) : Type 0 where
   pub safe : IsSafe (unmapped_of s.waits) (length s.world.table.blocks) s.world.gc.per_block
     s.world.flash.operations s.world.flash.cells s.world.places
   pub elsewhere : IsElsewhere s.world.gc.per_block s.waits safe.spare.block
-  pub room : pages_with s s.waits ≤ capacity_of s.world
+  pub room : pages_with s s.waits ≤ page_capacity s.world
   pub in_range : (p : Pending) → s.waits ≡ Some p → p.page.0 < length s.world.places.pages
 
 -- the block isn't the victim of a collection before its end

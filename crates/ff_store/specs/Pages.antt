@@ -16,5 +16,5 @@ abbrev pub mapped_with : MapView → PageNo → ℕ
 mapped_with places page = mapped_count places + (if is_mapped places page then 0 else 1)
 
 -- how many pages may be mapped: all of all blocks but one, less one
-abbrev pub capacity_of : World → ℕ
-capacity_of w = (length w.table.blocks - 1) * w.gc.per_block - 1
+abbrev pub page_capacity : World → ℕ
+page_capacity w = (length w.table.blocks - 1) * w.gc.per_block - 1

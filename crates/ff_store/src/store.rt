@@ -6,15 +6,15 @@ ghost use Rattle.ff_flash.specs.Cells.{IsSealed, cell_at, erased};
 ghost use Rattle.ff_flash.specs.FlashState.{HasOperationsLeft, powered_off};
 ghost use Rattle.ff_flash.specs.Injected.{stop_of};
 ghost use Rattle.ff_flash.specs.declared.flash.FlashStop.TheVariants.{Failed, Off};
-ghost use Rattle.ff_space.specs.BlockTable.{block_at, new_table};
+ghost use Rattle.ff_space.specs.BlockTable.{IsTableSound, block_at, new_table};
 ghost use Rattle.ff_space.specs.declared.block.BlockState.TheVariants.{Erased, Open};
-ghost use Rattle.ff_map.specs.PageMap.{empty_map, place_of};
+ghost use Rattle.ff_map.specs.PageMap.{IsMapSound, empty_map, place_of};
 ghost use Rattle.ff_gc.specs.Collector.{new_collector};
 ghost use Rattle.ff_gc.specs.World.{page_bytes};
 ghost use Rattle.ff_store.specs.Calls.{Collects, CollectsFor, CollectsNow, Fetches, Flushes, IsCall, IsProgrammed, IsWritePlace, MatchSealed, ProgramsPage, SameBytes, SealsPage, WantsCollect, waiting_page};
 ghost use Rattle.ff_store.specs.Left.{left_of};
 ghost use Rattle.ff_store.specs.PageStore.{IsStoreSound, new_store};
-ghost use Rattle.ff_store.specs.Pages.{capacity_of, is_mapped, mapped_with};
+ghost use Rattle.ff_store.specs.Pages.{is_mapped, mapped_with, page_capacity};
 ghost use Rattle.ff_store.specs.declared.store.FlushStep.TheVariants.{Collected, Programmed};
 
 use crate::pending::Pending;
@@ -115,9 +115,12 @@ impl<F: Flash> PageStore<F> {
 
     /// What every store keeps. For the prover alone.
     pub fn known(&self)
-        ensures { IsStoreSound self.now }
+        ensures store { IsStoreSound self.now }
+        ensures table { IsTableSound self.now.world.table }
+        ensures map { IsMapSound self.now.world.places }
     {
-        let _ = &self.flash;
+        self.space.known();
+        self.places.known();
     }
 
     pub fn is_mapped(&self, page: PageNo) -> bool
@@ -147,6 +150,7 @@ impl<F: Flash> PageStore<F> {
         self.counts
     }
 
+    #[tactic(auto, using(crate::proofs::Calling::place_within, crate::proofs::Calling::fetched_call))]
     /// Reads a page. One that isn't mapped is zeros, without a flash operation.
     pub fn fetch(&mut self, page: PageNo, into: &mut PageBuf) -> Result<(), FlashStop>
         requires life { HasOperationsLeft self.old.world.flash }
@@ -161,6 +165,7 @@ impl<F: Flash> PageStore<F> {
         if !self.flash.is_on() {
             return Err(FlashStop::Off);
         }
+        self.known();
         match self.places.get(page) {
             Some(at) => self.read(at, into),
             None => {
@@ -172,6 +177,7 @@ impl<F: Flash> PageStore<F> {
 
     fn read(&mut self, at: Ppn, into: &mut PageBuf) -> Result<(), FlashStop>
         requires life { HasOperationsLeft self.old.world.flash }
+        requires on { self.old.world.flash.on ≡ true }
         requires place { at.0 < length self.old.world.flash.cells }
         requires sealed { IsSealed (cell_at self.old.world.flash.cells at.0) }
         ensures { Fetches self.old at into.old result into.new self.new }
@@ -186,7 +192,7 @@ impl<F: Flash> PageStore<F> {
         requires life { HasOperationsLeft self.old.world.flash }
         requires none { self.old.waits ≡ None }
         requires page { page.0 < length self.old.world.places.pages }
-        requires room { mapped_with self.old.world.places page ≤ capacity_of self.old.world }
+        requires room { mapped_with self.old.world.places page ≤ page_capacity self.old.world }
         ensures off { self.old.world.flash.on ≡ false → (result ≡ Err Off) × (self.new ≡ self.old) }
         ensures call { self.old.world.flash.on ≡ true → IsCall self.old (stop_of result) self.new }
         ensures step { self.old.world.flash.on ≡ true → Flushes self.old page from.now result self.new }
@@ -198,15 +204,32 @@ impl<F: Flash> PageStore<F> {
         if !self.flash.is_on() {
             return Err(FlashStop::Off);
         }
-        self.powered_flush(page, from)
+        self.flush(page, from)
     }
 
-    fn powered_flush(&mut self, page: PageNo, from: &PageBuf) -> Result<FlushStep, FlashStop>
+    fn flush(&mut self, page: PageNo, from: &PageBuf) -> Result<FlushStep, FlashStop>
         requires life { HasOperationsLeft self.old.world.flash }
         requires on { self.old.world.flash.on ≡ true }
         requires none { self.old.waits ≡ None }
         requires page { page.0 < length self.old.world.places.pages }
-        requires room { mapped_with self.old.world.places page ≤ capacity_of self.old.world }
+        requires room { mapped_with self.old.world.places page ≤ page_capacity self.old.world }
+        ensures step { Flushes self.old page from.now result self.new }
+        ensures call { IsCall self.old (stop_of result) self.new }
+        ensures same { SameBytes self.old self.new }
+        ensures programmed { result ≡ Ok Programmed → IsProgrammed self.new page from.now }
+        ensures none { result ≢ Ok Programmed → self.new.waits ≡ None }
+        ensures left { result ≡ Ok Collected → left_of self.new.world < left_of self.old.world }
+    {
+        self.known();
+        self.program_or_collect(page, from)
+    }
+
+    fn program_or_collect(&mut self, page: PageNo, from: &PageBuf) -> Result<FlushStep, FlashStop>
+        requires life { HasOperationsLeft self.old.world.flash }
+        requires on { self.old.world.flash.on ≡ true }
+        requires none { self.old.waits ≡ None }
+        requires page { page.0 < length self.old.world.places.pages }
+        requires room { mapped_with self.old.world.places page ≤ page_capacity self.old.world }
         ensures { Flushes self.old page from.now result self.new }
     {
         if self.owed {
@@ -244,7 +267,7 @@ impl<F: Flash> PageStore<F> {
             &mut self.places,
             &mut self.counts,
         );
-        self.owed = owed && self.collector.busy();
+        self.owed = both(owed, self.collector.busy());
         result
     }
 
@@ -254,11 +277,13 @@ impl<F: Flash> PageStore<F> {
         requires on { self.old.world.flash.on ≡ true }
         requires none { self.old.waits ≡ None }
         requires page { page.0 < length self.old.world.places.pages }
-        requires room { mapped_with self.old.world.places page ≤ capacity_of self.old.world }
+        requires room { mapped_with self.old.world.places page ≤ page_capacity self.old.world }
         requires place { IsWritePlace self.old.world.table place.block.0 place.at.0 }
         requires state { (block_at self.old.world.table place.block.0).state ≡ (if place.erased then Erased else Open) }
         ensures { ProgramsPage self.old page from.now result self.new }
     {
+        self.known();
+        let _bytes = from.as_slice();
         let version = self.places.draw_version();
         self.counts.begin(OperationKind::Program);
         match self.flash.program(place.at, from, Spare { page, version }) {
@@ -294,9 +319,22 @@ impl<F: Flash> PageStore<F> {
             return Err(FlashStop::Off);
         }
         match self.waits {
-            Some(pending) => self.seal(pending),
+            Some(pending) => self.end_flush(pending),
             None => unreachable!(),
         }
+    }
+
+    fn end_flush(&mut self, pending: Pending) -> Result<FlushStep, FlashStop>
+        requires life { HasOperationsLeft self.old.world.flash }
+        requires on { self.old.world.flash.on ≡ true }
+        requires waits { self.old.waits ≡ Some pending }
+        ensures step { SealsPage self.old pending result self.new }
+        ensures call { IsCall self.old (stop_of result) self.new }
+        ensures placed { IfOk result (λ step. MatchSealed self.old step self.new) }
+        ensures stopped { IfErr result (λ _. SameBytes self.old self.new) }
+    {
+        self.known();
+        self.seal(pending)
     }
 
     fn seal(&mut self, pending: Pending) -> Result<FlushStep, FlashStop>
@@ -334,6 +372,18 @@ impl<F: Flash> PageStore<F> {
         if !self.flash.is_on() {
             return Err(FlashStop::Off);
         }
+        self.collect_on()
+    }
+
+    fn collect_on(&mut self) -> Result<GcStep, FlashStop>
+        requires life { HasOperationsLeft self.old.world.flash }
+        requires on { self.old.world.flash.on ≡ true }
+        requires none { self.old.waits ≡ None }
+        ensures call { IsCall self.old (stop_of result) self.new }
+        ensures step { Collects self.old.owed self.old result self.new }
+        ensures same { SameBytes self.old self.new }
+    {
+        self.known();
         self.collect(self.owed)
     }
 
@@ -363,4 +413,10 @@ impl<F: Flash> PageStore<F> {
     {
         self.flash
     }
+}
+
+fn both(one: bool, other: bool) -> bool
+    ensures { result ≡ (one && other) }
+{
+    one && other
 }
