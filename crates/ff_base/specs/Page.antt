@@ -9,6 +9,10 @@ line_of page line = slice_range page (64 * line) (64 * line + 64)
 abbrev pub with_line : List ℕ → ℕ → List ℕ → List ℕ
 with_line page line bytes = take (64 * line) page ++ bytes ++ drop (64 * line + 64) page
 
+-- a line of zeros
+unfoldable pub blank_line : List ℕ
+blank_line = replicate 64 0
+
 -- a page of zeros
 unfoldable pub blank_page : List ℕ
 blank_page = replicate 4096 0

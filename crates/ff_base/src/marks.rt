@@ -27,6 +27,15 @@ impl Marks {
         Ok(Marks { masks })
     }
 
+    /// Equal marks.
+    pub fn copy(&self, alloc: Global) -> Result<Marks, NoMemory>
+        ensures { IfOk result (λ marks. marks ≡ self.now) }
+    {
+        let mut masks = Vec::with_capacity(alloc, self.masks.len())?;
+        masks.extend_from_slice(&self.masks)?;
+        Ok(Marks { masks })
+    }
+
     /// Marks these lines of the page and no other of it.
     pub fn set_lines(&mut self, page: PageNo, lines: u64)
         requires { page.0 < length self.old }

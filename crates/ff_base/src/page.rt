@@ -53,6 +53,15 @@ impl PageBuf {
         self.bytes[from..from + LINE_BYTES].copy_from_slice(bytes);
     }
 
+    /// A page with the same bytes.
+    pub fn copy(&self, alloc: Global) -> Result<PageBuf, NoMemory>
+        ensures { IfOk result (λ page. page ≡ self.now) }
+    {
+        let mut bytes = Vec::with_capacity(alloc, PAGE_BYTES)?;
+        bytes.extend_from_slice(&self.bytes)?;
+        Ok(PageBuf { bytes })
+    }
+
     /// All bytes, in their order.
     pub fn as_slice(&self) -> &[u8]
         ensures bytes { result.now ≡ self.now }

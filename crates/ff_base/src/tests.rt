@@ -1,3 +1,4 @@
+// Pages, marks and the bounds of a geometry.
 use super::*;
 use std::test::Fail;
 
@@ -8,7 +9,9 @@ fn a_new_page_is_zeros_and_keeps_a_line(rt: HostRuntime) -> Result<(), Fail> {
     page.set_line(1, &[7; 64]);
     assert_eq!(rt; page.line(1), [7; 64]);
     assert_eq!(rt; page.line(0), [0; 64]);
+    let copy = page.copy(rt.alloc())?;
     page.clear();
+    assert_eq!(rt; copy.line(1), [7; 64]);
     assert_eq!(rt; page.line(1), [0; 64]);
     Ok(())
 }
@@ -22,7 +25,7 @@ fn marks_are_kept_by_page(rt: HostRuntime) -> Result<(), Fail> {
     marks.set_lines(PageNo(2), 5);
     assert_eq!(rt; marks.lines(PageNo(0)), 0);
     assert_eq!(rt; marks.lines(PageNo(1)), 0x8000_0000_0000_0001);
-    assert_eq!(rt; marks.lines(PageNo(2)), 5);
+    assert_eq!(rt; marks.copy(rt.alloc())?.lines(PageNo(2)), 5);
     Ok(())
 }
 

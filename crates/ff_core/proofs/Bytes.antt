@@ -11,6 +11,7 @@ use Rattle.ff_model.specs.Legal.{span_bytes}
 use Rattle.ff_model.specs.Spans.{is_span}
 use Rattle.ff_lines.specs.Overlay.{overlaid}
 use Rattle.ff_lines.proofs.Overlaid.{byte-overlaid, length-overlaid}
+use Rattle.ff_model.proofs.Replies.{span_one_line, span_some, span_within}
 use Rattle.ff_core.specs.Pages.{page_byte}
 
 -- bytes that are those of a span, each at its address
@@ -45,15 +46,6 @@ pub record Lies (count at len p line from : ℕ) : Type 0 where
   pub address : (i : ℕ) → i < len → (at + i) / 4096 ≡ p
   pub offset : (i : ℕ) → i < len → (at + i) % 4096 ≡ 64 * line + (from + i)
   pub start : 4096 * p + (64 * line + from) ≡ at
-
-pub span_one_line : (count at len : ℕ) → IsTrue (is_span count at len) → at % 64 + len ≤ 64
-span_one_line count at len span = grind (arith, nat_tests)
-
-pub span_some : (count at len : ℕ) → IsTrue (is_span count at len) → 1 ≤ len
-span_some count at len span = grind (arith, nat_tests)
-
-pub span_within : (count at len : ℕ) → IsTrue (is_span count at len) → at + len ≤ count * 4096
-span_within count at len span = grind (arith, nat_tests)
 
 pub span_lies : (count at len p line from : ℕ) → IsTrue (is_span count at len) → p ≡ at / 4096 → line ≡ at % 4096 / 64 → from ≡ at % 64 → Lies count at len p line from
 span_lies count at len p line from span p-is line-is from-is =

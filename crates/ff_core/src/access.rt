@@ -1,7 +1,8 @@
-ghost use Rattle.std.specs.Prelude.{◌≡◌, ◌<◌, ◌^◌, IsTrue, length};
-ghost use Rattle.ff_model.specs.Legal.{served_reply};
+// The answer to one call over the pages.
+ghost use Rattle.std.specs.Prelude.{◌≡◌, ◌<◌, ◌^◌, IsTrue, false, length};
+ghost use Rattle.ff_model.specs.Legal.{reply_over, served_reply};
 ghost use Rattle.ff_model.specs.Spans.{is_in_range};
-ghost use Rattle.ff_core.specs.Pages.{StoresOnly, page_byte, reply_over};
+ghost use Rattle.ff_core.specs.Pages.{LeavesBytes, page_byte};
 
 use crate::pages::{load, store};
 use ff_base::{LAST_EVENT, PageBuf};
@@ -10,8 +11,8 @@ use ff_model::{Op, Reply};
 /// Answers a call at an event number. No page is refused for want of a place.
 pub fn answer(pages: &mut [PageBuf], event: u64, op: &Op) -> Reply
     requires { length pages.old < 2 ^ 32 }
-    ensures reply { result ≡ reply_over pages.old event op.now }
-    ensures bytes { StoresOnly pages.old op.now result pages.new }
+    ensures reply { result ≡ reply_over (length pages.old) false (page_byte pages.old) event op.now }
+    ensures bytes { LeavesBytes pages.old op.now result pages.new }
 {
     if !op.is_in_range(pages.len() as u32) {
         return Reply::Range;
@@ -25,7 +26,7 @@ pub fn answer(pages: &mut [PageBuf], event: u64, op: &Op) -> Reply
 fn serve(pages: &mut [PageBuf], op: &Op) -> Reply
     requires { IsTrue (is_in_range (length pages.old) op.now) }
     ensures reply { result ≡ served_reply (page_byte pages.old) op.now }
-    ensures bytes { StoresOnly pages.old op.now result pages.new }
+    ensures bytes { LeavesBytes pages.old op.now result pages.new }
 {
     match op {
         Op::Load { at, len } => Reply::Bytes(load(pages, *at, *len)),

@@ -1,10 +1,12 @@
+// The state of a session and its calls.
 ghost use Rattle.std.specs.Prelude.{◌≡◌, ◌<◌, ◌≤◌, ◌+◌, min, IfOk};
 ghost use Rattle.ff_base.specs.Count.{last_event};
 ghost use Rattle.ff_base.specs.Geometry.{IsWithinLimits, capacity_of};
-ghost use Rattle.ff_model.specs.Legal.{IsLegal};
+ghost use Rattle.ff_model.specs.Legal.{IsLegal, faults_after, next_event};
 ghost use Rattle.ff_core.specs.declared.core_state.Driven.TheVariants.{Served};
 
 use crate::access::answer;
+use crate::account::Record;
 use crate::pages::make_blank;
 use ff_base::{Caller, Geometry, LAST_EVENT, NoMemory, PageBuf};
 use ff_model::{Entry, History, Image, Op, Reply};
@@ -26,11 +28,11 @@ pub enum Driven {
     Off,
 }
 
-/// What a session leaves: the image that it started from, and its answered calls.
+/// What a session leaves: the image that it started from, and its record.
 #[derive(Drop)]
 pub struct Ended {
     pub base: Image,
-    pub history: History,
+    pub account: Record,
 }
 
 /// The state of a session, with the history of its answered calls.
@@ -40,31 +42,34 @@ pub struct Core {
     base: Image,
     pages: Vec<PageBuf>,
     history: History,
+    from_event: u64,
+    from_faults: u64,
     events: u64,
     spare_calls: u32,
     spare_turns: u32,
 }
 
 impl Model for Core {
-    ghost use Rattle.ff_core.specs.CoreState.{State};
+    ghost use Rattle.ff_core.specs.Core.{CoreView};
 
-    ghost Value = { State };
+    ghost Value = { CoreView };
 
-    ghost use Rattle.ff_core.specs.CoreFields.{state_of, IsKept};
+    ghost use Rattle.ff_core.specs.CoreFields.{view_of, IsKept};
 
-    ghost view = { state_of };
+    ghost view = { view_of };
 
     ghost invariant = { IsKept };
 }
 
 impl Core {
-    ghost use Rattle.ff_core.specs.CoreState.{after_call, entry_of, fresh_state};
+    ghost use Rattle.ff_core.specs.Core.{after_call, entry_of, fresh_core};
+    ghost use Rattle.ff_core.specs.Record.{record_of};
 
     /// A first session: no page was stored, and the event number is 0. The device holds every page.
     pub fn fresh(alloc: Global, geometry: Geometry, room: Room) -> Result<Core, NoMemory>
         requires limits { IsWithinLimits geometry }
         requires capacity { geometry.pages ≤ capacity_of geometry }
-        ensures { IfOk result (λ core. core ≡ fresh_state geometry room.calls room.turns) }
+        ensures { IfOk result (λ core. core ≡ fresh_core geometry room.calls room.turns) }
     {
         let base = Image::new(alloc, geometry.pages)?;
         let pages = make_blank(alloc, geometry.pages)?;
@@ -74,6 +79,8 @@ impl Core {
             base,
             pages,
             history,
+            from_event: 0,
+            from_faults: 0,
             events: 0,
             spare_calls: room.calls,
             spare_turns: room.turns,
@@ -94,9 +101,9 @@ impl Core {
             number,
             op: op.copy(),
             reply: reply.copy(),
-            faults: 0,
+            faults: self.from_faults,
         });
-        self.events = next_event(event);
+        self.events = event_after(event);
         self.spare_calls -= 1;
         Driven::Served(reply)
     }
@@ -126,18 +133,26 @@ impl Core {
     /// Ends the session.
     pub fn finish(self) -> Ended
         ensures base { result.base ≡ self.opening.base }
-        ensures entries { result.history.entries ≡ self.entries }
+        ensures account { result.account ≡ record_of self }
         ensures legal { IsLegal self.opening self.entries }
+        ensures events { next_event self.opening self.entries ≡ self.events }
+        ensures faults { faults_after self.opening self.entries ≡ self.opening.faults }
     {
         Ended {
             base: self.base,
-            history: self.history,
+            account: Record {
+                history: self.history,
+                geometry: self.geometry,
+                from_event: self.from_event,
+                from_faults: self.from_faults,
+                events: self.events,
+            },
         }
     }
 }
 
 // The event number stands still at its last value.
-fn next_event(event: u64) -> u64
+fn event_after(event: u64) -> u64
     requires { event ≤ last_event }
     ensures { result ≡ min (event + 1) last_event }
 {

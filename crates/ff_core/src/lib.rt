@@ -3,9 +3,11 @@
 #![tactic(auto)]
 
 mod access;
+mod account;
 mod core_state;
 mod pages;
 #[cfg(test)]
 mod tests;
 
+pub use account::Record;
 pub use core_state::{Core, Driven, Ended, Room};

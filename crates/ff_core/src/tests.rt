@@ -1,3 +1,4 @@
+// Calls of a session one after the other, and what it leaves.
 ghost use Rattle.std.specs.Prelude.{◌≤◌, length};
 
 use super::*;
@@ -75,7 +76,10 @@ fn replies_are_those_of_a_flat_byte_array(rt: HostRuntime) -> Result<(), Fail> {
     assert_eq!(rt; core.history().len(), 14);
     let ended = core.finish();
     assert_eq!(rt; ended.base.byte(10), 0);
-    let last = ended.history.get(13);
+    assert_eq!(rt; ended.account.from_event(), 0);
+    assert_eq!(rt; ended.account.events(), 14);
+    assert_eq!(rt; *ended.account.geometry(), Geometry::default());
+    let last = ended.account.history().get(13);
     assert!(rt; last.is_some_and(|last| last.event == 13 && last.number == 13));
     Ok(())
 }

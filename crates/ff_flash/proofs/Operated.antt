@@ -1,10 +1,10 @@
 -- What an operation makes of a flash's power, its count of operations, and what it keeps.
-use Rattle.std.proofs.Common.{◌≡◌, ◌≢◌, ◌≤◌, ◌+◌, inl, inr, ℕ, Bool, true, false, length, Option, Some, None, refl, sym, ap, subst, ◌∙◌, arith}
+use Rattle.std.proofs.Common.{◌≡◌, ◌≢◌, ◌≤◌, ◌+◌, inl, inr, true, false, length, Option, Some, refl, sym, ap, ◌∙◌, arith}
 use Rattle.std.specs.Prelude.{not}
 use Rattle.std.proofs.lemmas.Bool.{cases_Bool}
 use Rattle.ff_flash.specs.FlashState.{FlashState, IsFlashSound, Operates}
 use Rattle.ff_flash.specs.declared.flash.FlashStop.{FlashStop}
-use Rattle.ff_flash.specs.declared.flash.FlashStop.TheVariants.{Failed, Off}
+use Rattle.ff_flash.specs.declared.flash.FlashStop.TheVariants.{Off}
 
 -- the power was on before an operation that leaves it on
 pub was_on : (before after : FlashState) (stop : Option FlashStop) → Operates before stop after → after.on ≡ true

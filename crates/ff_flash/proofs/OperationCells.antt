@@ -2,11 +2,11 @@
 use Rattle.std.proofs.Common.{◌≡◌, ◌≢◌, ◌<◌, ◌/◌, ◌%◌, inl, inr, ℕ, Bool, true, false, List, length, set, Result, refl, sym, ap, subst, ◌∙◌, arith}
 use Rattle.std.specs.Prelude.{◌==◌, ◌⊎◌, if◌then◌else◌, Ok, Err}
 use Rattle.std.specs.Int.{bit_at}
-use Rattle.std.proofs.lemmas.Bool.{cases_eq, cases_lt}
+use Rattle.std.proofs.lemmas.Bool.{cases_lt}
 use Rattle.std.proofs.lemmas.Bool.Decides.{nat_tests}
 use Rattle.std.proofs.lemmas.List.{get_or-set_other, get_or-set_same, get_or_default, get_or_past, length-set, same_lists, set-get_or}
 use Rattle.ff_flash.proofs.SealedCells.{closed_unsealed, never_sealed, sealed_before, sealed_stays}
-use Rattle.ff_flash.specs.Cells.{Cell, ChangesEach, Erases, IsUnsealed, Operation, Programs, Seals, cell_after, cell_after_erase, cell_at, cells_after, closed, erase, erased, program, seal, sealed, sealed_cell, spoiled}
+use Rattle.ff_flash.specs.Cells.{Cell, ChangesEach, Erases, IsUnsealed, Programs, Seals, cell_after, cell_after_erase, cell_at, cells_after, closed, erase, erased, program, seal, sealed, sealed_cell, spoiled}
 use Rattle.ff_flash.specs.Injected.{Went}
 use Rattle.ff_flash.specs.declared.flash.FlashStop.{FlashStop}
 use Rattle.ff_flash.specs.declared.flash.FlashStop.TheVariants.{Failed, Off}

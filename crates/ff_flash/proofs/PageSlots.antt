@@ -6,7 +6,7 @@ use Rattle.std.proofs.lemmas.List.{length-append, length-take, length-drop, leng
 use Rattle.std.proofs.lemmas.List.Sums.{sum_by-set, sum_by-cons}
 use Rattle.std.proofs.lemmas.Slice.{drop-append-drop}
 use Rattle.std.proofs.Math.Seq.{drop-append_seam}
-use Rattle.ff_flash.specs.PageArena.{AreSlots, HasSlot, free_count, page_in, slot_page, slot_pages}
+use Rattle.ff_flash.specs.PageArena.{AreSlots, HasSlot, slotless_count, page_in, slot_page, slot_pages}
 
 -- a part of the bytes, from a place on
 abbrev part : List ℕ → ℕ → ℕ → List ℕ
@@ -119,9 +119,9 @@ appended bytes page slots used place are lies filled size =
     ])
 
 -- one place that had no page fewer is free
-free-set : (slots : List (Option ℕ)) (place used : ℕ) → place < length slots → get_or slots place None ≡ None → free_count (set slots place (Some used)) + 1 ≡ free_count slots
+free-set : (slots : List (Option ℕ)) (place used : ℕ) → place < length slots → get_or slots place None ≡ None → slotless_count (set slots place (Some used)) + 1 ≡ slotless_count slots
 free-set slots place used lies bare =
-    let split : free_count (set slots place (Some used)) + cond {A = ℕ} (not (is_some (get_or slots place None))) 1 0 ≡ free_count slots + 0 = sum_by-set (λ s. cond {A = ℕ} (not (is_some s)) 1 0) slots place (Some used) None lies in
+    let split : slotless_count (set slots place (Some used)) + cond {A = ℕ} (not (is_some (get_or slots place None))) 1 0 ≡ slotless_count slots + 0 = sum_by-set (λ s. cond {A = ℕ} (not (is_some s)) 1 0) slots place (Some used) None lies in
     let one : cond {A = ℕ} (not (is_some (get_or slots place None))) 1 0 ≡ 1 = ap (λ (s : Option ℕ). cond {A = ℕ} (not (is_some s)) 1 0) bare in
     omega arith
 
@@ -167,7 +167,7 @@ get_or-bare places p = elim (cases_lt p places) [
   | inr past ↦ let size = length-replicate {A = Option ℕ} places None in get_or_past (replicate places None) p None (omega arith)
 ]
 
-free-bare : (places : ℕ) → free_count (replicate places None) ≡ places
+free-bare : (places : ℕ) → slotless_count (replicate places None) ≡ places
 free-bare zero = refl
 free-bare (suc places) = sum_by-cons (λ s. cond {A = ℕ} (not (is_some s)) 1 0) None (replicate {A = Option ℕ} places None) ∙ (let rest = free-bare places in omega arith)
 

@@ -1,7 +1,7 @@
 -- Sealed cells in a list of which one cell is replaced.
 use Rattle.std.proofs.Common.{◌≡◌, ◌≢◌, ◌<◌, ℕ, zero, suc, List, [], ◌∷◌, length, set, arith, subst, sym, ◌∙◌}
 use Rattle.std.proofs.lemmas.List.{get_or-set_other}
-use Rattle.ff_flash.specs.Cells.{Cell, IsUnsealed, cell_at, closed, erased, sealed, spoiled}
+use Rattle.ff_flash.specs.Cells.{Cell, IsUnsealed, cell_at, closed, erased, sealed}
 use Rattle.ff_flash.specs.declared.spare.Spare.{Spare}
 
 -- an erased cell is not sealed

@@ -1,7 +1,6 @@
 -- How the operations of a simulated flash go by its plan, and what they have in common.
-use Rattle.std.proofs.Common.{◌≡◌, ◌<◌, ◌+◌, ◌*◌, ◌/◌, ◌%◌, set, inl, inr, ℕ, Bool, true, false, List, [], length, Result, Option, Some, None, refl, sym, ap, subst, ◌∙◌, arith}
+use Rattle.std.proofs.Common.{◌≡◌, ◌+◌, ◌*◌, ◌/◌, ◌%◌, set, inl, inr, ℕ, Bool, true, false, List, [], length, Result, Option, Some, None, refl, sym, ap, subst, ◌∙◌, arith}
 use Rattle.std.specs.Prelude.{if◌then◌else◌, is_some, replicate, ◌==◌, Ok, Err, IsErrAnd}
-use Rattle.std.specs.Int.{bit_at}
 use Rattle.std.proofs.lemmas.Bool.{cases_Bool}
 use Rattle.std.proofs.lemmas.List.{set-get_or}
 use Rattle.std.proofs.lemmas.Nat.Bits.{bit_at-zero}
@@ -9,15 +8,15 @@ use Rattle.ff_flash.proofs.NextInjected.{cut_by}
 use Rattle.ff_flash.proofs.Rising.{count_next, count_within, none_passed}
 use Rattle.ff_flash.proofs.SimCells.{fresh_cells}
 use Rattle.ff_flash.specs.Cells.{Cell, Operation, program, seal, erase, erased, cell_after, cell_after_erase, cell_at, cells_after, ChangesEach}
-use Rattle.ff_flash.specs.FlashState.{CountsFaults, FlashState, Operates, SameFlash, UsesPower}
-use Rattle.ff_flash.specs.Injected.{Went, answer_of, stop_of}
-use Rattle.ff_flash.specs.Injector.{InjectorView, IsCutBy, IsInjectorSound, counted, injector_after, is_cut, is_powered, next_injected, power_after}
+use Rattle.ff_flash.specs.FlashState.{CountsFaults, Operates, UsesPower}
+use Rattle.ff_flash.specs.Injected.{Went, injected_answer, stop_of}
+use Rattle.ff_flash.specs.Injector.{InjectorView, IsCutBy, IsInjectorSound, counted_injector, injector_after, is_cut_off, is_powered, next_injected, power_after}
 use Rattle.ff_flash.specs.PageState.{cells_of}
 use Rattle.ff_flash.specs.Plans.{Planned, IsPlan, is_listed, listed_count, cut_at, cut_injected, due_injected}
 use Rattle.ff_flash.specs.SimFlash.{HasPageBytes, IsSimFlashSound}
 use Rattle.ff_flash.specs.SimFlashFields.{flash_of}
 use Rattle.ff_flash.specs.declared.flash.FlashStop.{FlashStop}
-use Rattle.ff_flash.specs.declared.flash.FlashStop.TheVariants.{Failed, Off}
+use Rattle.ff_flash.specs.declared.flash.FlashStop.TheVariants.{Off}
 use Rattle.ff_flash.specs.declared.injected.Injected.{Injected}
 use Rattle.ff_flash.specs.declared.injected.Injected.TheVariants.{Nothing, Failure, Cut, PowerOff}
 use Rattle.ff_flash.specs.declared.injector.Power.{Power}
@@ -26,7 +25,7 @@ use Rattle.ff_flash.specs.declared.page_states.PageState.TheVariants.{Erased}
 use Rattle.ff_flash.specs.declared.plan.CutAt.{CutAt}
 
 -- an operation that goes so went so, by its answer
-pub went : (Holds : Injected → Type 0) (injected : Injected) → (Holds PowerOff → Holds (Cut 0)) → Holds injected → Went (answer_of injected) Holds
+pub went : (Holds : Injected → Type 0) (injected : Injected) → (Holds PowerOff → Holds (Cut 0)) → Holds injected → Went (injected_answer injected) Holds
 went Holds Nothing idle holds = holds
 went Holds Failure idle holds = holds
 went Holds (Cut mask) idle holds = (mask, holds)
@@ -39,7 +38,7 @@ cut_none seal cell = refl
 cut_none (erase page) cell = rw (bit_at-zero (page % 32)) refl
 
 pub went_page : (operation : Operation) (injected : Injected) (old new : List Cell) (at : ℕ) (answer : Result (Unit {0}) FlashStop)
-    → answer ≡ answer_of injected → new ≡ cells_after operation injected old at
+    → answer ≡ injected_answer injected → new ≡ cells_after operation injected old at
     → Went answer (λ how. new ≡ cells_after operation how old at)
 went_page operation injected old new at answer answers is =
     rw answers
@@ -47,7 +46,7 @@ went_page operation injected old new at answer answers is =
     (λ off. off ∙ ap (λ (cell : Cell). set old at cell) (sym (cut_none operation (cell_at old at)))) is)
 
 pub went_block : (n block : ℕ) (injected : Injected) (old new : List Cell) (answer : Result (Unit {0}) FlashStop)
-    → answer ≡ answer_of injected → ChangesEach (cell_after_erase n block injected) old new
+    → answer ≡ injected_answer injected → ChangesEach (cell_after_erase n block injected) old new
     → Went answer (λ how. ChangesEach (cell_after_erase n block how) old new)
 went_block n block injected old new answer answers changes =
     rw answers
@@ -88,7 +87,7 @@ block_by n block injected next old new is changed =
 -- what an injector that is on makes of the power
 used_power : (blocks per_block : ℕ) (old new : List Cell) (injector : InjectorView) (fails : Bool) (cut : Option CutAt)
     → is_powered injector.power ≡ true → (fails ≡ true → cut ≡ None)
-    → UsesPower (flash_of blocks per_block old injector) (stop_of (answer_of (if fails then Failure else cut_injected cut)))
+    → UsesPower (flash_of blocks per_block old injector) (stop_of (injected_answer (if fails then Failure else cut_injected cut)))
     (flash_of blocks per_block new (record injector { operations = injector.operations + 1; power = power_after cut }))
 used_power blocks per_block old new injector true None on apart = record {
   unpowered = λ off. (let e : true ≡ false = sym on ∙ off in cc);
@@ -115,7 +114,7 @@ counted_faults : (blocks per_block : ℕ) (old new : List Cell) (injector : Inje
     (cut : Option CutAt) → IsPlan injector.plan
     → is_listed (injector.operations + 1) injector.plan.fail ≡ fails
     → cut_at (injector.operations + 1) injector.plan.cuts ≡ cut
-    → CountsFaults (flash_of blocks per_block old injector) (stop_of (answer_of (if fails then Failure else cut_injected cut)))
+    → CountsFaults (flash_of blocks per_block old injector) (stop_of (injected_answer (if fails then Failure else cut_injected cut)))
     (flash_of blocks per_block new (record injector { operations = injector.operations + 1; power = power }))
 counted_faults blocks per_block old new injector power true cut is listed at =
     let count = count_next injector.operations 1 injector.plan.fail is.fail in
@@ -182,8 +181,8 @@ not_made blocks per_block cells injector off is =
 
 -- what an operation that is made makes of all but the cells
 made : (blocks per_block : ℕ) (old new : List Cell) (injector : InjectorView) → is_powered injector.power ≡ true → IsPlan injector.plan
-    → Operates (flash_of blocks per_block old injector) (stop_of (answer_of (due_injected injector.plan (injector.operations + 1))))
-    (flash_of blocks per_block new (counted injector))
+    → Operates (flash_of blocks per_block old injector) (stop_of (injected_answer (due_injected injector.plan (injector.operations + 1))))
+    (flash_of blocks per_block new (counted_injector injector))
 made blocks per_block old new injector on is =
     let fails : Bool = is_listed (injector.operations + 1) injector.plan.fail in
     let cut : Option CutAt = cut_at (injector.operations + 1) injector.plan.cuts in
@@ -196,12 +195,12 @@ made blocks per_block old new injector on is =
 -- what an operation makes of all but the cells, which stay where the power is off
 pub operates_as : (blocks per_block : ℕ) (old new : List Cell) (injector : InjectorView) (stop : Option FlashStop)
     → IsPlan injector.plan → (next_injected injector ≡ PowerOff → new ≡ old)
-    → stop ≡ stop_of (answer_of (next_injected injector))
+    → stop ≡ stop_of (injected_answer (next_injected injector))
     → Operates (flash_of blocks per_block old injector) stop (flash_of blocks per_block new (injector_after injector))
 operates_as blocks per_block old new injector stop is same stops = elim (cases_Bool (is_powered injector.power)) [
   | inl on ↦
       let next : next_injected injector ≡ due_injected injector.plan (injector.operations + 1) = rw on refl in
-      let after : injector_after injector ≡ counted injector = rw on refl in
+      let after : injector_after injector ≡ counted_injector injector = rw on refl in
       rw (stops, next, after) (made blocks per_block old new injector on is)
   | inr off ↦
       let next : next_injected injector ≡ PowerOff = rw off refl in
@@ -213,7 +212,7 @@ operates_as blocks per_block old new injector stop is same stops = elim (cases_B
 pub sound_after : (injector : InjectorView) → IsInjectorSound injector → IsInjectorSound (injector_after injector)
 sound_after injector sound = elim (cases_Bool (is_powered injector.power)) [
   | inl on ↦
-      let after : injector_after injector ≡ counted injector = rw on refl in
+      let after : injector_after injector ≡ counted_injector injector = rw on refl in
       subst (λ (a : InjectorView). IsInjectorSound a) (sym after)
       (record { plan = sound.plan; cut = cut_by (cut_at (injector.operations + 1) injector.plan.cuts) })
   | inr off ↦
@@ -221,12 +220,12 @@ sound_after injector sound = elim (cases_Bool (is_powered injector.power)) [
       subst (λ (a : InjectorView). IsInjectorSound a) (sym after) sound
 ]
 
-is_cut_on : (power : Power) → is_powered power ≡ true → is_cut power ≡ false
+is_cut_on : (power : Power) → is_powered power ≡ true → is_cut_off power ≡ false
 is_cut_on On on = refl
 is_cut_on Down on = cc
 is_cut_on (CutOff arrive) on = cc
 
-cut_some : (power : Power) (cut : Option CutAt) → IsCutBy power cut → is_cut power ≡ true → is_some cut ≡ true
+cut_some : (power : Power) (cut : Option CutAt) → IsCutBy power cut → is_cut_off power ≡ true → is_some cut ≡ true
 cut_some On cut by is = cc
 cut_some Down cut by is = cc
 cut_some (CutOff arrive) (Some cut) by is = refl

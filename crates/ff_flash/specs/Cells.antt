@@ -84,7 +84,9 @@ cells_after operation injected cells at =
 -- the cell at a place after an erase of its block, or of another, by how it goes
 abbrev pub cell_after_erase : ℕ → ℕ → Injected → ℕ → Cell → Cell
 cell_after_erase per_block block injected place cell =
-    if place / per_block == block then cell_after (erase (place % per_block)) injected cell else cell
+    if place / per_block == block
+    then cell_after (erase (place % per_block)) injected cell
+    else cell
 
 -- each cell becomes what the change makes of it at its place
 pub record ChangesEach (change : ℕ → Cell → Cell) (old new : List Cell) : Type 0 where
@@ -103,7 +105,8 @@ ReadsBytes old at before (Ok _) after new = (after ≡ cell_bytes (cell_at old a
 ReadsBytes old at before (Err _) after new = (after ≡ before) × (new ≡ old)
 
 -- a program of an erased page
-abbrev pub Programs : List Cell → ℕ → List ℕ → Spare → Result (Unit {0}) FlashStop → List Cell → Type 0
+abbrev pub Programs : List Cell → ℕ → List ℕ → Spare → Result (Unit {0}) FlashStop → List Cell
+    → Type 0
 Programs old at bytes spare result new =
     Went result (λ injected. new ≡ cells_after (program bytes spare) injected old at)
 

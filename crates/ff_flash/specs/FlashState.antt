@@ -52,7 +52,8 @@ pub record UsesPower (old : FlashState) (stop : Option FlashStop) (new : FlashSt
 
 -- what an operation that stops so, or does not stop, makes of the count of faults. Where the plan is told, it
 -- stops as the plan says, and a cut is no fault
-pub record CountsFaults (old : FlashState) (stop : Option FlashStop) (new : FlashState) : Type 0 where
+pub record CountsFaults (old : FlashState) (stop : Option FlashStop) (new : FlashState)
+    : Type 0 where
   pub failed : stop ≡ Some Failed → new.faults ≡ old.faults + 1
   pub worked : stop ≡ None → new.faults ≡ old.faults
   pub no_fall : old.faults ≤ new.faults

@@ -6,11 +6,11 @@ use Rattle.ff_flash.specs.declared.injected.Injected.{Injected}
 use Rattle.ff_flash.specs.declared.injected.Injected.TheVariants.{Nothing, Failure, Cut, PowerOff}
 
 -- what an operation that goes so answers
-abbrev pub answer_of : Injected → Result (Unit {0}) FlashStop
-answer_of Nothing = Ok tt
-answer_of Failure = Err Failed
-answer_of (Cut mask) = Err Off
-answer_of PowerOff = Err Off
+abbrev pub injected_answer : Injected → Result (Unit {0}) FlashStop
+injected_answer Nothing = Ok tt
+injected_answer Failure = Err Failed
+injected_answer (Cut mask) = Err Off
+injected_answer PowerOff = Err Off
 
 -- how an answer stopped, if it did
 abbrev pub stop_of : {T : Type 0} → Result T FlashStop → Option FlashStop

@@ -22,9 +22,9 @@ is_powered On = true
 is_powered _ = false
 
 -- a cut turned the power off
-abbrev pub is_cut : Power → Bool
-is_cut (CutOff arrive) = true
-is_cut _ = false
+abbrev pub is_cut_off : Power → Bool
+is_cut_off (CutOff arrive) = true
+is_cut_off _ = false
 
 -- how many posts arrive after the cut that turned the power off
 abbrev pub arrive_of : Power → Option ℕ
@@ -43,22 +43,26 @@ fresh_injector plan = record { plan = plan; operations = 0; power = On }
 -- how the next operation goes
 abbrev pub next_injected : InjectorView → Injected
 next_injected injector =
-    if is_powered injector.power then due_injected injector.plan (injector.operations + 1) else PowerOff
+    if is_powered injector.power
+    then due_injected injector.plan (injector.operations + 1)
+    else PowerOff
 
 -- the injector after one more operation with the power on
-abbrev pub counted : InjectorView → InjectorView
-counted injector = record injector {
+abbrev pub counted_injector : InjectorView → InjectorView
+counted_injector injector = record injector {
   operations = injector.operations + 1;
   power = power_after (cut_at (injector.operations + 1) injector.plan.cuts);
 }
 
 -- the injector after the next operation, which is counted where the power is on
 abbrev pub injector_after : InjectorView → InjectorView
-injector_after injector = if is_powered injector.power then counted injector else injector
+injector_after injector =
+    if is_powered injector.power then counted_injector injector else injector
 
 -- the injector after the power was turned off between two operations
 abbrev pub powered_down : InjectorView → InjectorView
-powered_down injector = if is_powered injector.power then record injector { power = Down } else injector
+powered_down injector =
+    if is_powered injector.power then record injector { power = Down } else injector
 
 -- where a cut turned the power off, it is this one
 abbrev pub IsCutBy : Power → Option CutAt → Type 0

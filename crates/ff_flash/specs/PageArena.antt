@@ -16,8 +16,8 @@ abbrev pub slot_pages : List ℕ → List (Option ℕ) → List (List ℕ)
 slot_pages bytes slots = map (λ slot. slot_page bytes slot) slots
 
 -- how many places have no slot
-abbrev pub free_count : List (Option ℕ) → ℕ
-free_count slots = count_by (λ slot. not (is_some slot)) slots
+abbrev pub slotless_count : List (Option ℕ) → ℕ
+slotless_count slots = count_by (λ slot. not (is_some slot)) slots
 
 -- the place has this slot
 abbrev pub HasSlot : List (Option ℕ) → ℕ → ℕ → Type 0
@@ -25,6 +25,7 @@ HasSlot slots place slot = slice_index_or slots place None ≡ Some slot
 
 -- each slot in use is of one place, and there is room for one for each place that has none
 pub record AreSlots (slots : List (Option ℕ)) (used : ℕ) : Type 0 where
-  pub free : free_count slots + used ≡ length slots
+  pub free : slotless_count slots + used ≡ length slots
   pub each : (place slot : ℕ) → HasSlot slots place slot → slot < used
-  pub apart : (first second slot : ℕ) → HasSlot slots first slot → HasSlot slots second slot → first ≡ second
+  pub apart : (first second slot : ℕ)
+      → HasSlot slots first slot → HasSlot slots second slot → first ≡ second

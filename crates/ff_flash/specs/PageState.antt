@@ -23,14 +23,15 @@ abbrev pub page_state_at : List PageState → ℕ → PageState
 page_state_at states place = slice_index_or states place Erased
 
 -- the state at a place alone changes, and whatever bytes its page has, its cell becomes what the change makes of it
-pub record ChangesState (old : List PageState) (at : ℕ) (new : List PageState) (change : List ℕ → Cell → Cell)
-    : Type 0 where
+pub record ChangesState (old : List PageState) (at : ℕ) (new : List PageState)
+    (change : List ℕ → Cell → Cell) : Type 0 where
   pub only : new ≡ slice_set old at (page_state_at new at)
   pub there : (bytes : List ℕ)
       → cell_of (page_state_at new at) bytes ≡ change bytes (cell_of (page_state_at old at) bytes)
 
 -- the states of so many pages of a block, from its first on, change as by an erase, whatever bytes they have
-pub record ErasesStates (first count : ℕ) (injected : Injected) (old new : List PageState) : Type 0 where
+pub record ErasesStates (first count : ℕ) (injected : Injected) (old new : List PageState)
+    : Type 0 where
   pub size : length new ≡ length old
   pub inside : (page : ℕ) (bytes : List ℕ) → page < count
       → cell_of (page_state_at new (first + page)) bytes

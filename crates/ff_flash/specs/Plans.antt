@@ -2,7 +2,7 @@
 use Rattle.std.specs.Prelude.{ℕ, ◌+◌, ◌≤◌, ◌≡◌, ◌==◌, Bool, true, if◌then◌else◌, nat_le, List, [], ◌∷◌, map, count_by, Option, Some, None}
 use Rattle.std.specs.List.{list_any}
 use Rattle.ff_flash.specs.declared.flash.FlashStop.{FlashStop}
-use Rattle.ff_flash.specs.Injected.{answer_of, stop_of}
+use Rattle.ff_flash.specs.Injected.{injected_answer, stop_of}
 use Rattle.ff_flash.specs.declared.injected.Injected.{Injected}
 use Rattle.ff_flash.specs.declared.injected.Injected.TheVariants.{Nothing, Failure, Cut}
 use Rattle.ff_flash.specs.declared.plan.CutAt.{CutAt}
@@ -46,7 +46,7 @@ due_injected plan number =
 
 -- how the operation of a number stops, if it does
 abbrev pub due_stop : Planned → ℕ → Option FlashStop
-due_stop plan number = stop_of (answer_of (due_injected plan number))
+due_stop plan number = stop_of (injected_answer (due_injected plan number))
 
 -- how many of the operations up to a number are listed
 abbrev pub listed_count : ℕ → List ℕ → ℕ

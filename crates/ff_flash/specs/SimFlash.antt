@@ -9,12 +9,13 @@ use Rattle.ff_flash.specs.declared.injected.Injected.{Injected}
 use Rattle.ff_flash.specs.declared.injected.Injected.TheVariants.{PowerOff}
 
 -- the plan of a flash that tells it
-abbrev pub plan_in : FlashState → Planned
-plan_in flash = unwrap_or flash.plan no_plan
+abbrev pub told_plan : FlashState → Planned
+told_plan flash = unwrap_or flash.plan no_plan
 
 -- how the next operation goes by the plan
 abbrev pub next_in : FlashState → Injected
-next_in flash = if flash.on then due_injected (plan_in flash) (flash.operations + 1) else PowerOff
+next_in flash =
+    if flash.on then due_injected (told_plan flash) (flash.operations + 1) else PowerOff
 
 -- a flash whose pages are all erased, with its power on
 abbrev pub fresh_flash : Geometry → Planned → FlashState
@@ -33,7 +34,9 @@ fresh_flash geometry plan = record {
 -- how many posts arrive after the cut that turned the power off: what the plan's cut of the last operation says
 abbrev pub arrive_of_cut : FlashState → Option ℕ
 arrive_of_cut flash =
-    if flash.cut then option_map (λ cut. cut.arrive) (cut_at flash.operations (plan_in flash).cuts) else None
+    if flash.cut
+    then option_map (λ cut. cut.arrive) (cut_at flash.operations (told_plan flash).cuts)
+    else None
 
 -- a programmed page has as many bytes as a page
 abbrev pub HasPageBytes : Cell → Type 0
@@ -44,9 +47,9 @@ HasPageBytes _ = Unit {0}
 -- what every simulated flash keeps
 pub record IsSimFlashSound (flash : FlashState) : Type 0 where
   pub sound : IsFlashSound flash
-  pub told : flash.plan ≡ Some (plan_in flash)
-  pub plan : IsPlan (plan_in flash)
-  pub faults : flash.faults ≡ listed_count flash.operations (plan_in flash).fail
-  pub cut : flash.cut ≡ true → is_some (cut_at flash.operations (plan_in flash).cuts) ≡ true
+  pub told : flash.plan ≡ Some (told_plan flash)
+  pub plan : IsPlan (told_plan flash)
+  pub faults : flash.faults ≡ listed_count flash.operations (told_plan flash).fail
+  pub cut : flash.cut ≡ true → is_some (cut_at flash.operations (told_plan flash).cuts) ≡ true
   pub making : flash.making ≡ []
   pub full : (place : ℕ) → HasPageBytes (cell_at flash.cells place)

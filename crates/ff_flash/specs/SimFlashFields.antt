@@ -3,7 +3,7 @@ use Rattle.std.specs.Prelude.{ℕ, ◌*◌, ◌<◌, ◌^◌, ◌≡◌, List, [
 use Rattle.ff_flash.specs.declared.sim_flash.SimFlash.TheInside.{Inside}
 use Rattle.ff_flash.specs.Cells.{Cell, cell_at}
 use Rattle.ff_flash.specs.FlashState.{FlashState}
-use Rattle.ff_flash.specs.Injector.{InjectorView, IsInjectorSound, is_cut, is_powered}
+use Rattle.ff_flash.specs.Injector.{InjectorView, IsInjectorSound, is_cut_off, is_powered}
 use Rattle.ff_flash.specs.PageState.{cells_of}
 use Rattle.ff_flash.specs.Plans.{listed_count}
 use Rattle.ff_flash.specs.SimFlash.{HasPageBytes}
@@ -19,7 +19,7 @@ flash_of blocks per_block cells injector = record {
   operations = injector.operations;
   plan = Some injector.plan;
   making = [];
-  cut = is_cut injector.power;
+  cut = is_cut_off injector.power;
 }
 
 -- the cells that the fields show

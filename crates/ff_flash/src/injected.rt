@@ -1,6 +1,6 @@
 // How an operation of a flash goes.
 ghost use Rattle.std.specs.Prelude.{◌≡◌};
-ghost use Rattle.ff_flash.specs.Injected.{answer_of};
+ghost use Rattle.ff_flash.specs.Injected.{injected_answer};
 
 use crate::FlashStop;
 
@@ -19,7 +19,7 @@ pub enum Injected {
 impl Injected {
     /// What the operation answers.
     pub fn answer(self) -> Result<(), FlashStop>
-        ensures { result ≡ answer_of self }
+        ensures { result ≡ injected_answer self }
     {
         match self {
             Injected::Nothing => Ok(()),

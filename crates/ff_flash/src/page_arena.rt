@@ -1,9 +1,9 @@
 // The arena of programmed pages' bytes. Each place takes room when it is first programmed, out of what was reserved
 // at the start, so that a program takes no memory.
-ghost use Rattle.std.specs.Prelude.{◌≡◌, ◌<◌, ◌≤◌, ◌^◌, ◌+◌, ◌*◌, ◌++◌, [], IfOk, IsOk, length, vec_len, vec_capacity, replicate, slice_set, slice_index_or, take, drop, Some, None};
+ghost use Rattle.std.specs.Prelude.{◌≡◌, ◌<◌, ◌≤◌, ◌+◌, ◌*◌, ◌++◌, [], IfOk, length, vec_len, vec_capacity, replicate, slice_set, slice_index_or, take, drop, Some, None};
 ghost use Rattle.ff_flash.specs.PageArena.{page_in};
 
-use ff_base::{NoMemory, PAGE_BYTES};
+use ff_base::{NoMemory, PAGE_BYTES, append_reserved};
 use std::alloc::Global;
 use std::marker::Model;
 
@@ -48,7 +48,7 @@ impl PageArena {
         let mut slots = Vec::with_capacity(alloc, self.slots.len())?;
         slots.extend_from_slice(&self.slots)?;
         let mut bytes = Vec::with_capacity(alloc, PAGE_BYTES * self.slots.len())?;
-        append(&mut bytes, &self.bytes);
+        append_reserved(&mut bytes, &self.bytes);
         Ok(PageArena {
             slots,
             used: self.used,
@@ -76,7 +76,7 @@ impl PageArena {
         match self.slots[place as usize] {
             Some(slot) => overwrite(&mut self.bytes, slot, page),
             None => {
-                append(&mut self.bytes, page);
+                append_reserved(&mut self.bytes, page);
                 self.slots[place as usize] = Some(self.used);
                 self.used += 1;
             }
@@ -111,17 +111,4 @@ fn overwrite(bytes: &mut Vec<u8>, slot: u32, page: &[u8])
 {
     let from = PAGE_BYTES * slot as usize;
     bytes[from..from + PAGE_BYTES].copy_from_slice(page);
-}
-
-// The capacity is there, so this takes no memory.
-fn append(bytes: &mut Vec<u8>, page: &[u8])
-    requires { vec_len bytes.old + length page.now ≤ vec_capacity bytes.old }
-    ensures items { bytes.new.items ≡ bytes.old.items ++ page.now }
-    ensures len { vec_len bytes.new ≡ vec_len bytes.old + length page.now }
-    ensures capacity { vec_capacity bytes.old ≤ vec_capacity bytes.new }
-{
-    match bytes.extend_from_slice(page) {
-        Ok(()) => {}
-        Err(_) => unreachable!(),
-    }
 }

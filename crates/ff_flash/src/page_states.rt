@@ -1,6 +1,6 @@
 // The simulated states of pages, without their bytes, and what operations make of them. Whatever bytes a page has,
 // its cell changes as an operation changes a cell.
-ghost use Rattle.std.specs.Prelude.{◌≡◌, ◌<◌, ◌≤◌, ◌+◌, ◌⊎◌, ℕ, List, IfOk, length, vec_len, replicate, slice_set, slice_index_or, if◌then◌else◌, ◌==◌};
+ghost use Rattle.std.specs.Prelude.{◌≡◌, ◌<◌, ◌≤◌, ◌+◌, ℕ, List, IfOk, vec_len, replicate, ◌==◌};
 ghost use Rattle.std.specs.Int.{bit_at};
 ghost use Rattle.ff_flash.specs.Cells.{cell_after, cell_probe, erase, program, seal};
 ghost use Rattle.ff_flash.specs.PageState.{ChangesState, ErasesStates, cell_of};
@@ -51,7 +51,8 @@ pub fn probe_of(state: PageState) -> Probe
 
 // The state of an erased page after a program of these bytes.
 fn programmed(state: PageState, spare: Spare, injected: Injected) -> PageState
-    ensures { (bytes : List ℕ) → cell_of result bytes ≡ cell_after (program bytes spare) injected (cell_of state bytes) }
+    ensures { (bytes : List ℕ)
+        → cell_of result bytes ≡ cell_after (program bytes spare) injected (cell_of state bytes) }
 {
     match injected {
         Injected::Nothing => PageState::Closed(spare),
@@ -63,7 +64,8 @@ fn programmed(state: PageState, spare: Spare, injected: Injected) -> PageState
 
 // The state of a closed page after a seal.
 fn sealed(state: PageState, injected: Injected) -> PageState
-    ensures { (bytes : List ℕ) → cell_of result bytes ≡ cell_after seal injected (cell_of state bytes) }
+    ensures { (bytes : List ℕ)
+        → cell_of result bytes ≡ cell_after seal injected (cell_of state bytes) }
 {
     match (state, injected) {
         (PageState::Closed(spare), Injected::Nothing) => PageState::Sealed(spare),
@@ -76,7 +78,8 @@ fn sealed(state: PageState, injected: Injected) -> PageState
 
 // The state of a page after an erase of the block of which it is the page of this number.
 fn erased(state: PageState, page: u32, injected: Injected) -> PageState
-    ensures { (bytes : List ℕ) → cell_of result bytes ≡ cell_after (erase page) injected (cell_of state bytes) }
+    ensures { (bytes : List ℕ)
+        → cell_of result bytes ≡ cell_after (erase page) injected (cell_of state bytes) }
 {
     match injected {
         Injected::Nothing => PageState::Erased,
@@ -106,7 +109,8 @@ pub fn program_at(states: &mut Vec<PageState>, at: u32, spare: Spare, injected: 
 /// Seals a closed page.
 pub fn seal_at(states: &mut Vec<PageState>, at: u32, injected: Injected)
     requires { at < vec_len states.old }
-    ensures changed { ChangesState states.old.items at states.new.items (λ bytes. cell_after seal injected) }
+    ensures changed { ChangesState states.old.items at states.new.items
+        (λ bytes. cell_after seal injected) }
     ensures len { vec_len states.new ≡ vec_len states.old }
 {
     let place = at as usize;

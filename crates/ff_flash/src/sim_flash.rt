@@ -163,7 +163,8 @@ impl Flash for SimFlash {
         requires life { HasOperationsLeft self.old }
         ensures cells { Erases self.old.per_block self.old.cells block.0 result self.new.cells }
         ensures counts { Operates self.old (stop_of result) self.new }
-        ensures planned { ChangesEach (cell_after_erase self.old.per_block block.0 (next_in self.old))
+        ensures planned { ChangesEach
+            (cell_after_erase self.old.per_block block.0 (next_in self.old))
             self.old.cells self.new.cells }
     {
         let injected = self.injector.next();

@@ -1,8 +1,8 @@
-ghost use Rattle.std.specs.Prelude.{◌≤◌, IfOk};
+// The table of the operations on the pages of a flash, its counts and cuts, and what a page reads as.
+ghost use Rattle.std.specs.Prelude.{IfOk};
 ghost use Rattle.ff_flash.specs.Plans.{IsPlan, planned_of};
 
 use super::*;
-use crate::Probe::{Closed, Erased, Spoiled};
 use ff_base::{Block, Geometry, NoMemory, PageBuf, PageNo, Ppn};
 use std::alloc::Global;
 use std::test::Fail;
@@ -21,7 +21,7 @@ fn a_spare_is_written_as_sixteen_bytes(rt: HostRuntime) {
     assert_eq!(rt; Spare::from_bytes(&bytes), None);
 }
 
-/// What an operation is made of in a row of the table.
+/// An operation on the first page of the second block, or on that block.
 #[derive(Clone, Copy)]
 enum Call {
     Probe,
@@ -41,113 +41,108 @@ enum Way {
 
 type Answer = Option<Result<(), FlashStop>>;
 
-/// The answer, and the states of the first two pages of the second block.
-type After = (Answer, Option<Probe>, Option<Probe>);
-
-const OK: Answer = Some(Ok(()));
-
-const FAILED: Answer = Some(Err(FlashStop::Failed));
-
-const OFF: Answer = Some(Err(FlashStop::Off));
-
-const SEALED: Probe = Probe::Sealed(SPARE);
-
-// Each way that an operation goes, and the answer to it.
-const WAYS: [(Way, Answer); 5] = [
-    (Way::Works, OK),
-    (Way::Fails, FAILED),
-    (Way::Cut(0), OFF),
-    (Way::Cut(1), OFF),
-    (Way::Cut(3), OFF),
+const WAYS: [Way; 5] = [
+    Way::Works,
+    Way::Fails,
+    Way::Cut(0),
+    Way::Cut(1),
+    Way::Cut(3),
 ];
 
-// What a program makes of an erased page, each way, and a seal of a closed one.
-const PROGRAMMED: [Probe; 5] = [Closed, Spoiled, Erased, Spoiled, Spoiled];
+// The operation, the state of the first two pages of the block before it, and for each way that it goes the letter of
+// its answer and those of the two states after it.
+const ROWS: [(Call, u8, &[u8; 20]); 11] = [
+    (Call::Probe, b'e', b"oee fee -ee -ee -ee "),
+    (Call::Probe, b's', b"oss fss -ss -ss -ss "),
+    (Call::Probe, b'c', b"occ fcc -cc -cc -cc "),
+    (Call::Probe, b'x', b"oxx fxx -xx -xx -xx "),
+    (Call::Read, b'x', b"oxx fxx -xx -xx -xx "),
+    (Call::Program, b'e', b"oce fse -ee -se -se "),
+    (Call::Seal, b'c', b"oxc fcc -cc -xc -xc "),
+    (Call::Erase, b'e', b"oee fee -ee -se -ss "),
+    (Call::Erase, b's', b"oee fss -ss -ss -ss "),
+    (Call::Erase, b'c', b"oee fcc -cc -sc -ss "),
+    (Call::Erase, b'x', b"oee fxx -xx -sx -ss "),
+];
 
-const NOW_SEALED: [Probe; 5] = [SEALED, Closed, Closed, SEALED, SEALED];
-
-// In the tables below, the first two pages of the second block of a flash of 4 pages a block are in one state. The
-// operation is on the first of them, or on their block.
 #[test]
-fn a_probe_or_a_read_changes_no_page(rt: HostRuntime) -> Result<(), Fail> {
-    for (way, answer) in WAYS {
-        for state in [Erased, Spoiled, Closed, SEALED] {
-            let after = made(rt.alloc(), state, Call::Probe, way)?;
-            assert_eq!(rt; after, (answer, Some(state), Some(state)));
-        }
-        let after = made(rt.alloc(), SEALED, Call::Read, way)?;
-        assert_eq!(rt; after, (answer, Some(SEALED), Some(SEALED)));
+fn pages_change_by_the_table(rt: HostRuntime) -> Result<(), Fail> {
+    for (call, state, wanted) in ROWS {
+        assert_eq!(rt; row(rt.alloc(), call, state)?, *wanted);
     }
     Ok(())
 }
 
+// The letters of an operation from a state, each way that it goes.
+fn row(alloc: Global, call: Call, state: u8) -> Result<[u8; 20], NoMemory> {
+    let mut letters = *b"                    ";
+    for i in 0..5 {
+        let mut flash = flash_in(alloc, state, WAYS[i])?;
+        let mut page = PageBuf::new(alloc)?;
+        letters[4 * i] = answer_letter(make(&mut flash, call, Ppn(4), &mut page));
+        letters[4 * i + 1] = state_letter(flash.glance(Ppn(4)));
+        letters[4 * i + 2] = state_letter(flash.glance(Ppn(5)));
+    }
+    Ok(letters)
+}
+
+fn answer_letter(answer: Answer) -> u8 {
+    match answer {
+        Some(Ok(())) => b'o',
+        Some(Err(FlashStop::Failed)) => b'f',
+        Some(Err(FlashStop::Off)) => b'-',
+        None => b'?',
+    }
+}
+
+fn state_letter(state: Option<Probe>) -> u8 {
+    match state {
+        Some(Probe::Erased) => b'e',
+        Some(Probe::Spoiled) => b's',
+        Some(Probe::Closed) => b'c',
+        Some(Probe::Sealed(_)) => b'x',
+        None => b'?',
+    }
+}
+
 #[test]
-fn a_program_or_a_seal_changes_its_page(rt: HostRuntime) -> Result<(), Fail> {
-    for ((way, answer), page) in WAYS.into_iter().zip(PROGRAMMED) {
-        let after = made(rt.alloc(), Erased, Call::Program, way)?;
-        assert_eq!(rt; after, (answer, Some(page), Some(Erased)));
-    }
-    for ((way, answer), page) in WAYS.into_iter().zip(NOW_SEALED) {
-        let after = made(rt.alloc(), Closed, Call::Seal, way)?;
-        assert_eq!(rt; after, (answer, Some(page), Some(Closed)));
-    }
+fn a_flash_tells_its_counts_and_its_cut(rt: HostRuntime) -> Result<(), Fail> {
+    let mut flash = flash_in(rt.alloc(), b'e', Way::Cut(0))?;
+    assert_eq!(rt; counts_of(&flash), (6, 0, true, None));
+    let plan = plan_of(rt.alloc(), Way::Cut(0))?;
+    assert!(rt; flash.plan_is(&plan));
+    assert!(rt; !flash.plan_is(&plan_of(rt.alloc(), Way::Fails)?));
+    let mut page = PageBuf::new(rt.alloc())?;
+    let _ = make(&mut flash, Call::Probe, Ppn(0), &mut page);
+    let other = flash.copy(rt.alloc())?;
+    flash.power_off();
+    assert_eq!(rt; counts_of(&flash), (7, 0, false, Some(2)));
+    flash.power_up();
+    assert_eq!(rt; counts_of(&flash), (7, 0, true, None));
+    flash.power_off();
+    assert_eq!(rt; counts_of(&flash), (7, 0, false, None));
+    assert_eq!(rt; counts_of(&other), (7, 0, false, Some(2)));
     Ok(())
 }
 
 #[test]
-fn an_erase_changes_its_block(rt: HostRuntime) -> Result<(), Fail> {
-    for state in [Erased, Spoiled, Closed, SEALED] {
-        for (way, answer, first, second) in [
-            (Way::Works, OK, Erased, Erased),
-            (Way::Fails, FAILED, state, state),
-            (Way::Cut(0), OFF, state, state),
-            (Way::Cut(1), OFF, Spoiled, state),
-            (Way::Cut(3), OFF, Spoiled, Spoiled),
-        ] {
-            let after = made(rt.alloc(), state, Call::Erase, way)?;
-            assert_eq!(rt; after, (answer, Some(first), Some(second)));
-        }
-    }
+fn a_page_reads_as_it_was_programmed(rt: HostRuntime) -> Result<(), Fail> {
+    let mut flash = flash_in(rt.alloc(), b'e', Way::Works)?;
+    let mut page = PageBuf::new(rt.alloc())?;
+    page.set_line(1, &[9; 64]);
+    bring(&mut flash, Ppn(5), b'x', &mut page);
+    page.clear();
+    bring(&mut flash, Ppn(4), b'x', &mut page);
+    assert_eq!(rt;
+        make(&mut flash, Call::Read, Ppn(5), &mut page),
+        Some(Ok(()))
+    );
+    assert_eq!(rt; page.line(1), [9; 64]);
     Ok(())
 }
 
 /// The operations made, the faults, whether the power is on, and the posts that arrive after a cut.
-type Counts = (u64, u64, bool, Option<u32>);
-
-#[test]
-fn a_flash_tells_its_counts_and_its_cut(rt: HostRuntime) -> Result<(), Fail> {
-    let made = flash_of(rt.alloc(), Erased, Way::Cut(0))?;
-    assert!(rt; made.is_some());
-    if let Some(mut flash) = made {
-        assert_eq!(rt; counts_of(&flash), (0, 0, true, None));
-        assert!(rt; flash.plan_is(&cut(rt.alloc(), 0)?));
-        assert!(rt; !flash.plan_is(&failing(rt.alloc())?));
-        probe_to(&mut flash, 5);
-        let mut other = flash.copy(rt.alloc())?;
-        assert_eq!(rt;
-            powers(&mut other),
-            [
-                (5, 0, false, Some(2)),
-                (5, 0, true, None),
-                (5, 0, false, None)
-            ]
-        );
-        assert_eq!(rt; counts_of(&flash), (5, 0, false, Some(2)));
-    }
-    Ok(())
-}
-
-// The counts after the power is turned off, up and off again.
-fn powers(flash: &mut SimFlash) -> [Counts; 3] {
-    flash.power_off();
-    let first = counts_of(flash);
-    flash.power_up();
-    let second = counts_of(flash);
-    flash.power_off();
-    [first, second, counts_of(flash)]
-}
-
-fn counts_of(flash: &SimFlash) -> Counts {
+fn counts_of(flash: &SimFlash) -> (u64, u64, bool, Option<u32>) {
     (
         flash.operation_count(),
         flash.fault_count(),
@@ -156,189 +151,78 @@ fn counts_of(flash: &SimFlash) -> Counts {
     )
 }
 
-fn probe_to(flash: &mut SimFlash, number: u64) {
-    for _ in flash.operation_count()..number {
-        let _ = probe(flash, Ppn(0));
-    }
-}
-
-#[test]
-fn a_page_reads_as_it_was_programmed(rt: HostRuntime) -> Result<(), Fail> {
-    let made = flash_of(rt.alloc(), Erased, Way::Works)?;
-    assert!(rt; made.is_some());
-    if let Some(mut flash) = made {
-        let mut page = PageBuf::new(rt.alloc())?;
-        page.set_line(1, &[9; 64]);
-        bring(&mut flash, Ppn(5), &page, SEALED);
-        page.clear();
-        bring(&mut flash, Ppn(4), &page, SEALED);
-        assert_eq!(rt; read(&mut flash, Ppn(5), &mut page), OK);
-        assert_eq!(rt; page.line(1), [9; 64]);
-    }
-    Ok(())
-}
-
-// The answer to the operation on a flash whose pages 4 and 5 are in the state, and their states after it.
-fn made(alloc: Global, state: Probe, call: Call, way: Way) -> Result<After, NoMemory> {
-    let Some(mut flash) = flash_of(alloc, state, way)? else {
-        return Ok((None, None, None));
+// The first operation, an erase, is cut and spoils two pages. The seventh goes this way.
+fn plan_of(alloc: Global, way: Way) -> Result<Plan, NoMemory>
+    ensures { IfOk result (λ plan. IsPlan (planned_of plan)) }
+{
+    let spoils = CutAt {
+        at: 1,
+        mask: 3,
+        arrive: 0,
     };
-    let mut page = PageBuf::new(alloc)?;
-    bring(&mut flash, Ppn(4), &page, state);
-    bring(&mut flash, Ppn(5), &page, state);
-    probe_to(&mut flash, 4);
-    let answer = match call {
-        Call::Probe => probe(&mut flash, Ppn(4)).map(|told| told.map(|_| ())),
-        Call::Read => read(&mut flash, Ppn(4), &mut page),
-        Call::Program => program(&mut flash, Ppn(4), &page),
-        Call::Seal => seal(&mut flash, Ppn(4)),
-        Call::Erase => erase(&mut flash, Block(1)),
-    };
-    Ok((answer, flash.glance(Ppn(4)), flash.glance(Ppn(5))))
-}
-
-// The fifth operation goes so. Where the state is spoiled, the first two fail, or are cut if the fifth is.
-fn flash_of(alloc: Global, state: Probe, way: Way) -> Result<Option<SimFlash>, NoMemory> {
-    let geometry = Geometry::default();
-    if geometry.check().is_err() {
-        return Ok(None);
-    }
-    let plan = match (state, way) {
-        (Spoiled, Way::Fails) => failing_three(alloc)?,
-        (Spoiled, Way::Works) => failing_two(alloc)?,
-        (Spoiled, Way::Cut(mask)) => three_cuts(alloc, mask)?,
-        (_, Way::Works) => Plan {
+    match way {
+        Way::Works => Ok(Plan {
             fail: Vec::new(alloc),
-            cuts: Vec::new(alloc),
-        },
-        (_, Way::Fails) => failing(alloc)?,
-        (_, Way::Cut(mask)) => cut(alloc, mask)?,
-    };
-    Ok(Some(SimFlash::new(alloc, &geometry, plan)?))
-}
-
-fn failing(alloc: Global) -> Result<Plan, NoMemory>
-    ensures { IfOk result (λ plan. IsPlan (planned_of plan)) }
-{
-    Ok(Plan {
-        fail: vec![in alloc; 5]?,
-        cuts: Vec::new(alloc),
-    })
-}
-
-fn failing_two(alloc: Global) -> Result<Plan, NoMemory>
-    ensures { IfOk result (λ plan. IsPlan (planned_of plan)) }
-{
-    Ok(Plan {
-        fail: vec![in alloc; 1, 2]?,
-        cuts: Vec::new(alloc),
-    })
-}
-
-fn failing_three(alloc: Global) -> Result<Plan, NoMemory>
-    ensures { IfOk result (λ plan. IsPlan (planned_of plan)) }
-{
-    Ok(Plan {
-        fail: vec![in alloc; 1, 2, 5]?,
-        cuts: Vec::new(alloc),
-    })
-}
-
-fn cut(alloc: Global, mask: u32) -> Result<Plan, NoMemory>
-    ensures { IfOk result (λ plan. IsPlan (planned_of plan)) }
-{
-    Ok(Plan {
-        fail: Vec::new(alloc),
-        cuts: vec![in alloc;
-            CutAt {
-                at: 5,
-                mask,
-                arrive: 2
-            },
-        ]?,
-    })
-}
-
-fn three_cuts(alloc: Global, mask: u32) -> Result<Plan, NoMemory>
-    ensures { IfOk result (λ plan. IsPlan (planned_of plan)) }
-{
-    let arrive = 2;
-    Ok(Plan {
-        fail: Vec::new(alloc),
-        cuts: vec![in alloc;
-            CutAt {
-                at: 1,
-                mask: 1,
-                arrive
-            },
-            CutAt {
-                at: 2,
-                mask: 1,
-                arrive
-            },
-            CutAt {
-                at: 5,
-                mask,
-                arrive
-            },
-        ]?,
-    })
-}
-
-// Brings an erased page to a state, with the power on.
-fn bring(flash: &mut SimFlash, at: Ppn, page: &PageBuf, state: Probe) {
-    if state != Erased {
-        let _ = program(flash, at, page);
-        flash.power_up();
-    }
-    if state == SEALED {
-        let _ = seal(flash, at);
+            cuts: vec![in alloc; spoils]?,
+        }),
+        Way::Fails => Ok(Plan {
+            fail: vec![in alloc; 7]?,
+            cuts: vec![in alloc; spoils]?,
+        }),
+        Way::Cut(mask) => Ok(Plan {
+            fail: Vec::new(alloc),
+            cuts: vec![in alloc;
+                spoils,
+                CutAt {
+                    at: 7,
+                    mask,
+                    arrive: 2
+                },
+            ]?,
+        }),
     }
 }
 
-fn erase(flash: &mut SimFlash, block: Block) -> Option<Result<(), FlashStop>> {
-    if flash.operation_count() >= 1 << 63 || !flash.has_block(block) {
-        return None;
+// A flash after six operations, of which the first two pages of the second block are in this state.
+fn flash_in(alloc: Global, state: u8, way: Way) -> Result<SimFlash, NoMemory> {
+    let mut flash = SimFlash::new(alloc, &Geometry::default(), plan_of(alloc, way)?)?;
+    let mut page = PageBuf::new(alloc)?;
+    let _ = make(&mut flash, Call::Erase, Ppn(4), &mut page);
+    flash.power_up();
+    if state != b's' {
+        let _ = make(&mut flash, Call::Erase, Ppn(4), &mut page);
+        bring(&mut flash, Ppn(4), state, &mut page);
+        bring(&mut flash, Ppn(5), state, &mut page);
     }
-    Some(flash.erase(block))
+    for _ in flash.operation_count()..6 {
+        let _ = make(&mut flash, Call::Probe, Ppn(0), &mut page);
+    }
+    Ok(flash)
 }
 
-fn program(flash: &mut SimFlash, at: Ppn, page: &PageBuf) -> Option<Result<(), FlashStop>> {
+// Brings an erased page to this state.
+fn bring(flash: &mut SimFlash, at: Ppn, state: u8, page: &mut PageBuf) {
+    if state != b'e' {
+        let _ = make(flash, Call::Program, at, page);
+    }
+    if state == b'x' {
+        let _ = make(flash, Call::Seal, at, page);
+    }
+}
+
+// Makes an operation where it may be made.
+fn make(flash: &mut SimFlash, call: Call, at: Ppn, page: &mut PageBuf) -> Answer {
     if flash.operation_count() >= 1 << 63 {
         return None;
     }
-    match flash.glance(at) {
-        Some(Erased) => Some(flash.program(at, page, SPARE)),
+    match (call, flash.glance(at)?) {
+        (Call::Probe, _) => Some(flash.probe(at).map(|_| ())),
+        (Call::Read, Probe::Sealed(_)) => Some(flash.read(at, page)),
+        (Call::Program, Probe::Erased) => Some(flash.program(at, page, SPARE)),
+        (Call::Seal, Probe::Closed) => Some(flash.seal(at)),
+        (Call::Erase, _) if flash.has_block(Block(at.0 / 4)) => {
+            Some(flash.erase(Block(at.0 / 4)))
+        }
         _ => None,
-    }
-}
-
-fn seal(flash: &mut SimFlash, at: Ppn) -> Option<Result<(), FlashStop>> {
-    if flash.operation_count() >= 1 << 63 {
-        return None;
-    }
-    match flash.glance(at) {
-        Some(Closed) => Some(flash.seal(at)),
-        _ => None,
-    }
-}
-
-fn read(flash: &mut SimFlash, at: Ppn, page: &mut PageBuf) -> Option<Result<(), FlashStop>> {
-    if flash.operation_count() >= 1 << 63 {
-        return None;
-    }
-    match flash.glance(at) {
-        Some(Probe::Sealed(_)) => Some(flash.read(at, page)),
-        _ => None,
-    }
-}
-
-fn probe(flash: &mut SimFlash, at: Ppn) -> Option<Result<Probe, FlashStop>> {
-    if flash.operation_count() >= 1 << 63 {
-        return None;
-    }
-    match flash.glance(at) {
-        Some(_) => Some(flash.probe(at)),
-        None => None,
     }
 }

@@ -4,4 +4,5 @@ use Rattle.std.specs.Io.KnownBytes.{Appends}
 
 -- known bytes grow by a prefix of the piece
 abbrev pub AppendsPrefix : Option (List ℕ) → Option (List ℕ) → List ℕ → Type 0
-AppendsPrefix old new piece = (prefix rest : List ℕ) × (piece ≡ prefix ++ rest) × Appends old new prefix
+AppendsPrefix old new piece =
+    (prefix rest : List ℕ) × (piece ≡ prefix ++ rest) × Appends old new prefix

@@ -1,2 +1,4 @@
+pub mod Faults
+pub mod Host
 pub mod Known
 pub mod Memory

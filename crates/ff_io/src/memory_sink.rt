@@ -1,16 +1,17 @@
+// A sink into memory.
 ghost use Rattle.std.specs.Prelude.{◌≡◌, ◌<◌, ◌≤◌, ◌+◌, ◌↔◌, ◌⊎◌, [], ◌++◌, length, vec_capacity, vec_len, Some, IfOk, OnOk, OnErr, IsErr, Contains};
 ghost use Rattle.std.specs.Io.KnownBytes.{Appends};
-ghost use Rattle.ff_base.specs.Count.{Rose};
+ghost use Rattle.ff_io.specs.Faults.{CountsFault};
 ghost use Rattle.ff_io.specs.Known.{AppendsPrefix};
 ghost use Rattle.ff_io.specs.Memory.{SinkState, next_count};
 
 use crate::{Failed, Sink};
-use ff_base::NoMemory;
+use ff_base::{NoMemory, append_reserved};
 use std::alloc::Global;
 use std::marker::Model;
 
-/// A sink into memory that it reserves when it is made. Its writes fail at the listed call numbers, counted
-/// from 1, and where a piece does not fit.
+/// A sink into memory that it reserves when it is made. Its writes fail at the listed call numbers,
+/// counted from 1, and where a piece does not fit.
 #[derive(Drop)]
 pub struct MemorySink {
     bytes: Vec<u8>,
@@ -23,7 +24,13 @@ pub struct MemorySink {
 impl Model for MemorySink {
     ghost Value = { SinkState };
 
-    ghost view = { λ s. record { written = s.bytes.items; room = s.room; fail = s.fail.items; calls = s.calls; faults = s.faults } };
+    ghost view = { λ s. record {
+      written = s.bytes.items;
+      room = s.room;
+      fail = s.fail.items;
+      calls = s.calls;
+      faults = s.faults;
+    } };
 
     ghost invariant = { λ s. (vec_len s.bytes ≤ s.room) × (s.room ≤ vec_capacity s.bytes) };
 }
@@ -31,7 +38,13 @@ impl Model for MemorySink {
 impl MemorySink {
     /// An empty sink with room for so many bytes.
     pub fn new(alloc: Global, room: usize, fail: Vec<u64>) -> Result<MemorySink, NoMemory>
-        ensures { IfOk result (λ sink. sink ≡ record { written = []; room = room; fail = fail.items; calls = 0; faults = 0 }) }
+        ensures { IfOk result (λ sink. sink ≡ record {
+          written = [];
+          room = room;
+          fail = fail.items;
+          calls = 0;
+          faults = 0;
+        }) }
     {
         let bytes = Vec::with_capacity(alloc, room)?;
         Ok(MemorySink {
@@ -65,14 +78,16 @@ impl Sink for MemorySink {
     ghost faults = { λ s. s.faults };
 
     fn write(&mut self, piece: &[u8]) -> Result<(), Failed>
-        ensures ok { OnOk result (Appends (Some self.old.written) (Some self.new.written) piece.now) }
-        ensures err { OnErr result (AppendsPrefix (Some self.old.written) (Some self.new.written) piece.now) }
-        ensures same_faults { OnOk result (self.new.faults ≡ self.old.faults) }
-        ensures cause { OnErr result (Rose self.old.faults self.new.faults) }
-        ensures no_fall { self.old.faults ≤ self.new.faults }
+        ensures ok { OnOk result
+            (Appends (Some self.old.written) (Some self.new.written) piece.now) }
+        ensures err { OnErr result
+            (AppendsPrefix (Some self.old.written) (Some self.new.written) piece.now) }
+        ensures faults { CountsFault result self.old.faults self.new.faults }
 
-        // It fails at the listed calls and where the piece does not fit, and at no other, and then appends nothing.
-        ensures fails { IsErr result ↔ (Contains self.old.fail (next_count self.old.calls) ⊎ (self.old.room < length self.old.written + length piece.now)) }
+        // It fails at the listed calls and where the piece does not fit, and at no other, and then
+        // appends nothing.
+        ensures fails { IsErr result ↔ (Contains self.old.fail (next_count self.old.calls)
+            ⊎ (self.old.room < length self.old.written + length piece.now)) }
         ensures kept { OnErr result (self.new.written ≡ self.old.written) }
         ensures counted { OnErr result (self.new.faults ≡ next_count self.old.faults) }
         ensures called { self.new.calls ≡ next_count self.old.calls }
@@ -85,20 +100,7 @@ impl Sink for MemorySink {
             self.faults = self.faults.saturating_add(1);
             return Err(Failed);
         }
-        append(&mut self.bytes, piece);
+        append_reserved(&mut self.bytes, piece);
         Ok(())
-    }
-}
-
-// The capacity is there, so this takes no memory.
-fn append(bytes: &mut Vec<u8>, piece: &[u8])
-    requires { vec_len bytes.old + length piece.now ≤ vec_capacity bytes.old }
-    ensures items { bytes.new.items ≡ bytes.old.items ++ piece.now }
-    ensures len { vec_len bytes.new ≡ vec_len bytes.old + length piece.now }
-    ensures capacity { vec_capacity bytes.old ≤ vec_capacity bytes.new }
-{
-    match bytes.extend_from_slice(piece) {
-        Ok(()) => {}
-        Err(_) => unreachable!(),
     }
 }

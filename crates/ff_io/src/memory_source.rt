@@ -1,8 +1,10 @@
-ghost use Rattle.std.specs.Prelude.{◌≡◌, ◌<◌, ◌≤◌, ◌↔◌, length, take, drop, min, vec_len, Some, IfOk, OnOk, OnErr, IsErr, Contains};
+// A source in memory.
+ghost use Rattle.std.specs.Prelude.{◌≡◌, ◌<◌, ◌≤◌, ◌↔◌, length, take, drop, min, vec_len, Some, IfOk, OnErr, IsErr, Contains};
 ghost use Rattle.std.specs.Io.KnownBytes.{Consumes, IsAtEnd, Keeps};
-ghost use Rattle.ff_base.specs.Count.{Rose};
+ghost use Rattle.ff_io.specs.Faults.{CountsFault};
 ghost use Rattle.ff_io.specs.Memory.{SourceState, next_count};
 
+use crate::front::copy_front;
 use crate::{Failed, Source};
 use std::marker::Model;
 
@@ -19,7 +21,12 @@ pub struct MemorySource {
 impl Model for MemorySource {
     ghost Value = { SourceState };
 
-    ghost view = { λ s. record { left = drop s.at s.bytes.items; fail = s.fail.items; calls = s.calls; faults = s.faults } };
+    ghost view = { λ s. record {
+      left = drop s.at s.bytes.items;
+      fail = s.fail.items;
+      calls = s.calls;
+      faults = s.faults;
+    } };
 
     ghost invariant = { λ s. s.at ≤ vec_len s.bytes };
 }
@@ -27,7 +34,12 @@ impl Model for MemorySource {
 impl MemorySource {
     /// A source of all these bytes.
     pub fn new(bytes: Vec<u8>, fail: Vec<u64>) -> MemorySource
-        ensures { result ≡ record { left = bytes.items; fail = fail.items; calls = 0; faults = 0 } }
+        ensures { result ≡ record {
+          left = bytes.items;
+          fail = fail.items;
+          calls = 0;
+          faults = 0;
+        } }
     {
         MemorySource {
             bytes,
@@ -53,16 +65,19 @@ impl Source for MemorySource {
 
     fn read(&mut self, into: &mut [u8]) -> Result<usize, Failed>
         ensures bound { IfOk result (λ n. n ≤ length into.old) }
-        ensures taken { IfOk result (λ n. Consumes (Some self.old.left) (Some self.new.left) (take n into.new)) }
-        ensures end { IfOk result (λ n. n ≡ 0 → 0 < length into.old → IsAtEnd (Some self.old.left)) }
+        ensures taken { IfOk result (λ n.
+            Consumes (Some self.old.left) (Some self.new.left) (take n into.new)) }
+        ensures end { IfOk result (λ n.
+            n ≡ 0 → 0 < length into.old → IsAtEnd (Some self.old.left)) }
+        ensures behind { IfOk result (λ n. drop n into.new ≡ drop n into.old) }
         ensures kept { OnErr result (Keeps (Some self.old.left) (Some self.new.left)) }
-        ensures same_faults { OnOk result (self.new.faults ≡ self.old.faults) }
-        ensures cause { OnErr result (Rose self.old.faults self.new.faults) }
-        ensures no_fall { self.old.faults ≤ self.new.faults }
+        ensures unchanged { OnErr result (into.new ≡ into.old) }
+        ensures faults { CountsFault result self.old.faults self.new.faults }
 
         // It fails at the listed calls and at no other.
         ensures fails { IsErr result ↔ Contains self.old.fail (next_count self.old.calls) }
-        ensures count { IfOk result (λ n. n ≡ min (length into.old) (length self.old.left)) }
+        ensures count { IfOk result (λ n.
+            n ≡ min (length into.old) (length self.old.left)) }
         ensures counted { OnErr result (self.new.faults ≡ next_count self.old.faults) }
         ensures called { self.new.calls ≡ next_count self.old.calls }
         ensures same_list { self.new.fail ≡ self.old.fail }
@@ -76,14 +91,4 @@ impl Source for MemorySource {
         self.at += count;
         Ok(count)
     }
-}
-
-// As many of the first bytes as there is room for, and how many these are.
-fn copy_front(from: &[u8], into: &mut [u8]) -> usize
-    ensures count { result ≡ min (length into.old) (length from.now) }
-    ensures bytes { take result into.new ≡ take result from.now }
-{
-    let count = into.len().min(from.len());
-    into[..count].copy_from_slice(&from[..count]);
-    count
 }

@@ -1,6 +1,7 @@
-ghost use Rattle.std.specs.Prelude.{◌≡◌, ◌<◌, ◌≤◌, ℕ, List, Option, length, take, IfOk, OnOk, OnErr};
+// Where bytes come from and where they go.
+ghost use Rattle.std.specs.Prelude.{◌≡◌, ◌<◌, ◌≤◌, ℕ, List, Option, drop, length, take, IfOk, OnOk, OnErr};
 ghost use Rattle.std.specs.Io.KnownBytes.{Appends, Consumes, IsAtEnd, Keeps};
-ghost use Rattle.ff_base.specs.Count.{Rose};
+ghost use Rattle.ff_io.specs.Faults.{CountsFault};
 ghost use Rattle.ff_io.specs.Known.{AppendsPrefix};
 
 /// A read or a write failed.
@@ -15,15 +16,17 @@ pub trait Source {
     /// How often a read has failed, a count of 64 bits.
     ghost faults: { Self → ℕ };
 
-    /// Reads some bytes to the front of `into` and says how many. With room, 0 is the end of the input.
+    /// Reads some bytes to the front of `into` and says how many. With room, 0 is the end of the
+    /// input.
     fn read(&mut self, into: &mut [u8]) -> Result<usize, Failed>
         ensures bound { IfOk result (λ n. n ≤ length into.old) }
-        ensures taken { IfOk result (λ n. Consumes (left self.old) (left self.new) (take n into.new)) }
+        ensures taken { IfOk result (λ n.
+            Consumes (left self.old) (left self.new) (take n into.new)) }
         ensures end { IfOk result (λ n. n ≡ 0 → 0 < length into.old → IsAtEnd (left self.old)) }
+        ensures behind { IfOk result (λ n. drop n into.new ≡ drop n into.old) }
         ensures kept { OnErr result (Keeps (left self.old) (left self.new)) }
-        ensures same_faults { OnOk result (faults self.new ≡ faults self.old) }
-        ensures cause { OnErr result (Rose (faults self.old) (faults self.new)) }
-        ensures no_fall { faults self.old ≤ faults self.new };
+        ensures unchanged { OnErr result (into.new ≡ into.old) }
+        ensures faults { CountsFault result (faults self.old) (faults self.new) };
 }
 
 /// Where bytes go.
@@ -37,8 +40,7 @@ pub trait Sink {
     /// Appends the whole piece, or fails with a prefix of it appended.
     fn write(&mut self, piece: &[u8]) -> Result<(), Failed>
         ensures ok { OnOk result (Appends (written self.old) (written self.new) piece.now) }
-        ensures err { OnErr result (AppendsPrefix (written self.old) (written self.new) piece.now) }
-        ensures same_faults { OnOk result (faults self.new ≡ faults self.old) }
-        ensures cause { OnErr result (Rose (faults self.old) (faults self.new)) }
-        ensures no_fall { faults self.old ≤ faults self.new };
+        ensures err { OnErr result
+            (AppendsPrefix (written self.old) (written self.new) piece.now) }
+        ensures faults { CountsFault result (faults self.old) (faults self.new) };
 }

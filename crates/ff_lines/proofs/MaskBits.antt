@@ -2,8 +2,8 @@
 use Rattle.std.proofs.Common.{◌≡◌, ◌<◌, inl, inr, ℕ, ◌+◌, ◌-◌, ◌*◌, ◌%◌, ◌^◌, ◌==◌, ◌||◌, ◌&&◌, not, true, false, bit_and, bit_or, w64, refl, ap, arith}
 use Rattle.std.specs.Int.{bit_at, trailing_ones}
 use Rattle.std.proofs.lemmas.Bool.{cases_eq, cases_lt, eq-eqb, ne_eqb}
-use Rattle.std.proofs.lemmas.Nat.Bits.{bit_at-lt, bit_at_set_same, bit_at_set_other, bit_at_clear_same, bit_at_clear_other, bit_at_not, bit_at-trailing_ones, bit_at_ones}
-use Rattle.ff_lines.specs.LineMask.{has_line, IsFull, IsLeastClear}
+use Rattle.std.proofs.lemmas.Nat.Bits.{bit_at-lt, bit_at_set_same, bit_at_set_other, bit_at_clear_same, bit_at_clear_other, bit_at_not, bit_at-trailing_ones, bit_at_ones, bit_at-zero}
+use Rattle.ff_lines.specs.LineMask.{has_line, HasEveryLine, IsLeastClear}
 use Rattle.ff_lines.specs.declared.line_mask.LineMask.{LineMask}
 
 -- a mask of this number
@@ -62,9 +62,13 @@ least_clear n room =
     }
 
 -- a mask of ones only is full
-pub full : (n : ℕ) → n ≡ 2 ^ 64 - 1 → IsFull (mask_of n)
+pub full : (n : ℕ) → n ≡ 2 ^ 64 - 1 → HasEveryLine (mask_of n)
 full n all q in_page = rw all (ap (λ (b : ℕ). b == 1) (bit_at_ones 64 q in_page))
 
 -- a mask with a clear line isn't full
-pub not_full : (n line : ℕ) → IsLeastClear (mask_of n) line → IsFull (mask_of n) → ⊥
+pub not_full : (n line : ℕ) → IsLeastClear (mask_of n) line → HasEveryLine (mask_of n) → ⊥
 not_full n line found all = let a = all line found.in_page in let b = found.clear in cc
+
+-- a mask of no ones has no line
+pub has_line-none : (q : ℕ) → has_line (mask_of 0) q ≡ false
+has_line-none q = rw (bit_at-zero q) refl

@@ -1,2 +1,7 @@
+pub mod BlankLine
+pub mod DeviceState
 pub mod LineMask
 pub mod Overlay
+pub mod PageSets
+pub mod Posts
+pub mod Works

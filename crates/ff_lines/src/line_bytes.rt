@@ -1,7 +1,9 @@
-ghost use Rattle.std.specs.Prelude.{◌≡◌, ◌≤◌, ◌+◌, length};
-ghost use Rattle.ff_lines.specs.Overlay.{overlaid};
+// The overlay of a piece on a line, and on a line of a page.
+ghost use Rattle.std.specs.Prelude.{◌≡◌, ◌≤◌, ◌<◌, ◌+◌, length};
+ghost use Rattle.ff_base.specs.declared.numbers.TheConstants.{PAGE_BYTES};
+ghost use Rattle.ff_lines.specs.Overlay.{overlaid, page_overlaid};
 
-use ff_base::LINE_BYTES;
+use ff_base::{LINE_BYTES, PageBuf};
 use ff_model::Piece;
 
 /// Replaces the bytes of a line from a place on by those of a piece.
@@ -17,4 +19,16 @@ fn overlay_bytes(line: &mut [u8; LINE_BYTES], from: usize, bytes: &[u8])
     ensures { line.new ≡ overlaid line.old from bytes.now }
 {
     line[from..from + bytes.len()].copy_from_slice(bytes);
+}
+
+/// Replaces the bytes of a page's line, one below 64, from a place on by those of a piece.
+pub fn overlay_page(page: &mut PageBuf, line: u8, from: u8, piece: &Piece)
+    requires line { line < 64 }
+    requires fits { from + length piece.now ≤ 64 }
+    ensures bytes { page.new ≡ page_overlaid page.old line from piece.now }
+    ensures size { length page.old ≡ PAGE_BYTES }
+{
+    let mut bytes = page.line(line);
+    overlay(&mut bytes, from, piece);
+    page.set_line(line, &bytes);
 }

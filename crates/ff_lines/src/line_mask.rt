@@ -1,5 +1,6 @@
+// A set of lines as a mask of 64 bits.
 ghost use Rattle.std.specs.Prelude.{◌≡◌, ◌<◌, ◌==◌, ◌||◌, ◌&&◌, ℕ, not, IfSome, IsNone, IsTrue, ◌↔◌};
-ghost use Rattle.ff_lines.specs.LineMask.{has_line, IsLeastClear, IsFull};
+ghost use Rattle.ff_lines.specs.LineMask.{has_line, IsLeastClear, HasEveryLine, mask_with, mask_without, mask_others};
 
 /// A set of a page's lines, in which bit i stands for line i.
 #[derive(Clone, Copy, Debug, PartialEq, Eq)]
@@ -7,17 +8,21 @@ pub struct LineMask(pub u64);
 
 impl LineMask {
     /// Puts a line into the set.
+    #[tactic(auto, unfolding(crate::specs::LineMask::mask_with))]
     pub fn set(&mut self, line: u8)
         requires { line < 64 }
-        ensures { (q : ℕ) → q < 64 → has_line self.new q ≡ ((q == line) || has_line self.old q) }
+        ensures mask { self.new ≡ mask_with self.old line }
+        ensures lines { (q : ℕ) → q < 64 → has_line self.new q ≡ ((q == line) || has_line self.old q) }
     {
         self.0 |= 1 << line;
     }
 
     /// Takes a line out of the set.
+    #[tactic(auto, unfolding(crate::specs::LineMask::mask_without))]
     pub fn clear(&mut self, line: u8)
         requires { line < 64 }
-        ensures { (q : ℕ) → q < 64 → has_line self.new q ≡ (not (q == line) && has_line self.old q) }
+        ensures mask { self.new ≡ mask_without self.old line }
+        ensures lines { (q : ℕ) → q < 64 → has_line self.new q ≡ (not (q == line) && has_line self.old q) }
     {
         self.0 &= !(1 << line);
     }
@@ -33,7 +38,7 @@ impl LineMask {
     /// The least line that isn't in the set.
     pub fn first_clear(&self) -> Option<u8>
         ensures least { IfSome result (IsLeastClear self.now) }
-        ensures full { IsNone result ↔ IsFull self.now }
+        ensures full { IsNone result ↔ HasEveryLine self.now }
     {
         if self.0 == u64::MAX {
             return None;
@@ -42,8 +47,10 @@ impl LineMask {
     }
 
     /// The lines that aren't in the set.
+    #[tactic(auto, unfolding(crate::specs::LineMask::mask_others))]
     pub fn complement(&self) -> LineMask
-        ensures { (q : ℕ) → q < 64 → has_line result q ≡ not (has_line self.now q) }
+        ensures mask { result ≡ mask_others self.now }
+        ensures lines { (q : ℕ) → q < 64 → has_line result q ≡ not (has_line self.now q) }
     {
         LineMask(!self.0)
     }

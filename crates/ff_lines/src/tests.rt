@@ -1,3 +1,4 @@
+// Masks and overlays, by their lines and bytes.
 use super::*;
 use ff_model::Piece;
 use std::test::Fail;

@@ -20,11 +20,13 @@ same_place : (one other : Ppn) → one.0 ≡ other.0 → one ≡ other
 same_place one other same = ap (λ (n : ℕ). let place : Ppn = record { 0 = n } in place) same
 
 -- the place of a page whose mapping is known
-pub place_there : (pages : List (Option Mapping)) (page : PageNo) (mapping : Mapping) → get_or pages page.0 None ≡ Some mapping → listed_place pages page ≡ Some mapping.at
+pub place_there : (pages : List (Option Mapping)) (page : PageNo) (mapping : Mapping)
+    → get_or pages page.0 None ≡ Some mapping → listed_place pages page ≡ Some mapping.at
 place_there pages page mapping is = ap (λ (m : Option Mapping). option_map (λ (x : Mapping). x.at) m) is
 
 -- a page is at a place that is in range
-pub place_within : (pages : List (Option Mapping)) (owners : List (Option PageNo)) → IsInverse pages owners
+pub place_within : (pages : List (Option Mapping)) (owners : List (Option PageNo))
+    → IsInverse pages owners
     → (page : PageNo) (at : Ppn) → listed_place pages page ≡ Some at → at.0 < length owners
 place_within pages owners inverse page at there = elim (cases_lt at.0 (length owners)) [
   | inl within ↦ within
@@ -32,7 +34,8 @@ place_within pages owners inverse page at there = elim (cases_lt at.0 (length ow
 ]
 
 -- what a map's readers can know
-pub one_to_one : (pages : List (Option Mapping)) (owners : List (Option PageNo)) (next : ℕ) → IsInverse pages owners
+pub one_to_one : (pages : List (Option Mapping)) (owners : List (Option PageNo)) (next : ℕ)
+    → IsInverse pages owners
     → IsOneToOne record { pages = pages; places = length owners; next_version = next }
 one_to_one pages owners next inverse = record {
   apart = λ at one other first second. same_Some one other (sym (inverse.owned one at first) ∙ inverse.owned other at second);
@@ -49,13 +52,16 @@ sound_view pages owners next inverse few_pages few_places = record {
   places = few_places;
 }
 
-pub length-released : (old : Option Mapping) (owners : List (Option PageNo)) → length (released old owners) ≡ length owners
+pub length-released : (old : Option Mapping) (owners : List (Option PageNo))
+    → length (released old owners) ≡ length owners
 length-released None owners = refl
 length-released (Some old) owners = length-set owners old.at.0 None
 
 -- an owner that is left is another page
-owner_left : (pages : List (Option Mapping)) (owners : List (Option PageNo)) (page : PageNo) (old : Option Mapping) → IsInverse pages owners → get_or pages page.0 None ≡ old
-    → (other : PageNo) (at : Ppn) → listed_owner (released old owners) at ≡ Some other → (listed_owner owners at ≡ Some other) × (other.0 ≢ page.0)
+owner_left : (pages : List (Option Mapping)) (owners : List (Option PageNo)) (page : PageNo) (old : Option Mapping)
+    → IsInverse pages owners → get_or pages page.0 None ≡ old
+    → (other : PageNo) (at : Ppn) → listed_owner (released old owners) at ≡ Some other
+    → (listed_owner owners at ≡ Some other) × (other.0 ≢ page.0)
 owner_left pages owners page None inverse is other at left = (
   left,
   λ same.
@@ -79,8 +85,10 @@ owner_left pages owners page (Some old) inverse is other at left =
     ]
 
 -- another page stays the owner of its place
-owner_stays : (pages : List (Option Mapping)) (owners : List (Option PageNo)) (page : PageNo) (old : Option Mapping) → IsInverse pages owners → get_or pages page.0 None ≡ old
-    → (other : PageNo) (at : Ppn) → listed_owner owners at ≡ Some other → other.0 ≢ page.0 → listed_owner (released old owners) at ≡ Some other
+owner_stays : (pages : List (Option Mapping)) (owners : List (Option PageNo)) (page : PageNo) (old : Option Mapping)
+    → IsInverse pages owners → get_or pages page.0 None ≡ old
+    → (other : PageNo) (at : Ppn) → listed_owner owners at ≡ Some other → other.0 ≢ page.0
+    → listed_owner (released old owners) at ≡ Some other
 owner_stays pages owners page None inverse is other at owned apart = owned
 owner_stays pages owners page (Some old) inverse is other at owned apart =
     let here : listed_owner owners old.at ≡ Some page = inverse.owned page old.at (place_there pages page old is) in
@@ -90,8 +98,10 @@ owner_stays pages owners page (Some old) inverse is other at owned apart =
     get_or-set_other owners old.at.0 at.0 None None places ∙ owned
 
 -- a page is mapped to a place that no other page has
-pub inverse_after : (pages : List (Option Mapping)) (owners : List (Option PageNo)) (page : PageNo) (new : Mapping) → IsInverse pages owners
-    → page.0 < length pages → new.at.0 < length owners → ((other : PageNo) → listed_place pages other ≡ Some new.at → other ≡ page)
+pub inverse_after : (pages : List (Option Mapping)) (owners : List (Option PageNo)) (page : PageNo) (new : Mapping)
+    → IsInverse pages owners
+    → page.0 < length pages → new.at.0 < length owners
+    → ((other : PageNo) → listed_place pages other ≡ Some new.at → other ≡ page)
     → IsInverse (set pages page.0 (Some new)) (set (released (get_or pages page.0 None) owners) new.at.0 (Some page))
 inverse_after pages owners page new inverse page_within at_within free =
     let left = released (get_or pages page.0 None) owners in

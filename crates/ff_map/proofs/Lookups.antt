@@ -1,17 +1,22 @@
 -- What a look-up finds in a map, and after each change of it: for the proofs of every user.
-use Rattle.std.proofs.Common.{
-  ◌≡◌, ◌≢◌, ℕ, suc, zero, ◌+◌, ◌<◌, List, [], ◌∷◌, length, get_or, eqb, eq-eqb, true, false, Option, None, Some,
-  inl, inr, refl, sym, ap, ◌∙◌, arith
-}
+use Rattle.std.proofs.Common.{◌≡◌, ◌≢◌, ℕ, suc, zero, ◌<◌, List, [], ◌∷◌, length, get_or, eqb, eq-eqb, true, false, Option, None, Some, inl, inr, refl, sym, ap, ◌∙◌, arith}
 use Rattle.std.specs.Prelude.{option_map, All, AllPairs}
-use Rattle.std.proofs.lemmas.Bool.{cases_Bool, cases_lt, eqb-true, ne_eqb}
+use Rattle.std.proofs.lemmas.Bool.{cases_Bool, cases_lt, ne_eqb}
 use Rattle.std.proofs.lemmas.List.{get_or-set_same, get_or-set_other, get_or_past}
 use Rattle.std.proofs.lemmas.Option.{same_Some, none-some}
 use Rattle.ff_base.specs.declared.numbers.PageNo.{PageNo}
 use Rattle.ff_base.specs.declared.numbers.Ppn.{Ppn}
 use Rattle.ff_map.specs.PageMap.{
-  MapView, IsMapSound, IsSwitched, drawn_map, mapping_of, moved, moved_by, place_of, version_of,
-  with_mapping
+  MapView,
+  IsMapSound,
+  IsSwitched,
+  drawn_map,
+  mapping_of,
+  moved,
+  moved_by,
+  place_of,
+  version_of,
+  with_mapping,
 }
 use Rattle.ff_map.specs.declared.places.Mapping.{Mapping}
 use Rattle.ff_map.specs.declared.places.Move.{Move}
@@ -154,7 +159,8 @@ moved_along one mapping same =
     let hit : eqb mapping.at.0 one.from.0 ≡ true = eq-eqb mapping.at.0 one.from.0 same in rw hit refl
 
 -- a move leaves a mapping's version
-version-moved_by : (one : Move) (mapping : Mapping) → (moved_by one mapping).version ≡ mapping.version
+version-moved_by : (one : Move) (mapping : Mapping)
+    → (moved_by one mapping).version ≡ mapping.version
 version-moved_by one mapping = elim (cases_Bool (eqb mapping.at.0 one.from.0)) [
   | inl hit ↦ rw hit refl
   | inr miss ↦ rw miss refl

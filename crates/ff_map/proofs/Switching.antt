@@ -13,7 +13,8 @@ use Rattle.ff_map.specs.declared.places.Move.{Move}
 
 -- a mapping after one move
 moved_from : (one : Move) (old : Option Mapping) (at : Ppn) → one.to.0 ≢ at.0
-    → option_map (λ (m : Mapping). m.at) (option_map (moved_by one) old) ≡ Some at → option_map (λ (m : Mapping). m.at) old ≡ Some at
+    → option_map (λ (m : Mapping). m.at) (option_map (moved_by one) old) ≡ Some at
+    → option_map (λ (m : Mapping). m.at) old ≡ Some at
 moved_from one None at apart there = there
 moved_from one (Some mapping) at apart there = elim (cases_Bool (eqb mapping.at.0 one.from.0)) [
   | inl hit ↦ absurd (apart (ap (λ (p : Ppn). p.0) (same_Some one.to at (rw hit at there))))
@@ -21,8 +22,10 @@ moved_from one (Some mapping) at apart there = elim (cases_Bool (eqb mapping.at.
 ]
 
 -- a page that is at a place to which no move goes was there before
-was_there : (moves : List Move) (page : PageNo) (old : Option Mapping) (at : Ppn) → All (λ one. one.to.0 ≢ at.0) moves
-    → option_map (λ (m : Mapping). m.at) (moved moves page old) ≡ Some at → option_map (λ (m : Mapping). m.at) old ≡ Some at
+was_there : (moves : List Move) (page : PageNo) (old : Option Mapping) (at : Ppn)
+    → All (λ one. one.to.0 ≢ at.0) moves
+    → option_map (λ (m : Mapping). m.at) (moved moves page old) ≡ Some at
+    → option_map (λ (m : Mapping). m.at) old ≡ Some at
 was_there [] page old at apart there = there
 was_there (one ∷ rest) page old at apart there = elim (cases_Bool (eqb one.page.0 page.0)) [
   | inl hit ↦ moved_from one old at (apart 0 one (omega arith)) (rw hit at there)
@@ -30,7 +33,8 @@ was_there (one ∷ rest) page old at apart there = elim (cases_Bool (eqb one.pag
 ]
 
 -- one more move, of a page that the moves before it don't name
-moved-append : (moves : List Move) (one : Move) (page : PageNo) (old : Option Mapping) → All (λ other. other.page.0 ≢ one.page.0) moves
+moved-append : (moves : List Move) (one : Move) (page : PageNo) (old : Option Mapping)
+    → All (λ other. other.page.0 ≢ one.page.0) moves
     → moved (moves ++ one ∷ []) page old ≡ moved (one ∷ []) page (moved moves page old)
 moved-append [] one page old apart = refl
 moved-append (first ∷ rest) one page old apart = elim (cases_Bool (eqb first.page.0 page.0)) [
@@ -45,7 +49,8 @@ pub none_switched : (map : MapView) → IsSwitched [] map map
 none_switched map = record { mappings = λ page. refl; pages = refl; places = refl; next_version = refl }
 
 -- a move's page or destination is none of the earlier moves'
-earlier_apart : (key : Move → ℕ) (moves : List Move) (i : ℕ) (d : Move) → AllPairs (λ first second. key first ≢ key second) moves
+earlier_apart : (key : Move → ℕ) (moves : List Move) (i : ℕ) (d : Move)
+    → AllPairs (λ first second. key first ≢ key second) moves
     → i < length moves → All (λ other. key other ≢ key (get_or moves i d)) (take i moves)
 earlier_apart key moves i d apart within k e below same =
     let count : length (take i moves) ≡ i = length-take-le i moves (omega arith) in
@@ -53,8 +58,10 @@ earlier_apart key moves i d apart within k e below same =
     (sym (ap key (get_or-take i moves k e (omega arith))) ∙ same ∙ ap key (get_or_default moves i d e within))
 
 -- one more move
-pub more_switched : (moves : List Move) (i : ℕ) (d : Move) (before now after : MapView) → CanSwitch before moves → i < length moves
-    → IsSwitched (take i moves) before now → IsSwitched (get_or moves i d ∷ []) now after → IsSwitched (take (i + 1) moves) before after
+pub more_switched : (moves : List Move) (i : ℕ) (d : Move) (before now after : MapView)
+    → CanSwitch before moves → i < length moves
+    → IsSwitched (take i moves) before now → IsSwitched (get_or moves i d ∷ []) now after
+    → IsSwitched (take (i + 1) moves) before after
 more_switched moves i d before now after can within so_far last =
     let one : Move = get_or moves i d in
     let apart = earlier_apart (λ (m : Move). m.page.0) moves i d can.pages_apart within in
@@ -69,7 +76,8 @@ more_switched moves i d before now after can within so_far last =
     }
 
 -- the next move can be made
-pub next_ready : (moves : List Move) (i : ℕ) (d : Move) (before now : MapView) → CanSwitch before moves → i < length moves
+pub next_ready : (moves : List Move) (i : ℕ) (d : Move) (before now : MapView)
+    → CanSwitch before moves → i < length moves
     → IsSwitched (take i moves) before now → CanSwitch now (get_or moves i d ∷ [])
 next_ready moves i d before now can within so_far =
     let one : Move = get_or moves i d in

@@ -15,9 +15,9 @@ listed_owner owners at = slice_index_or owners at.0 None
 -- each of the two lists is the inverse of the other
 pub record IsInverse (pages : List (Option Mapping)) (owners : List (Option PageNo)) : Type 0 where
   pub owned : (page : PageNo) (at : Ppn) → listed_place pages page ≡ Some at
-    → listed_owner owners at ≡ Some page
+      → listed_owner owners at ≡ Some page
   pub mapped : (page : PageNo) (at : Ppn) → listed_owner owners at ≡ Some page
-    → listed_place pages page ≡ Some at
+      → listed_place pages page ≡ Some at
 
 -- the owners without that of the place where a page was
 abbrev pub released : Option Mapping → List (Option PageNo) → List (Option PageNo)

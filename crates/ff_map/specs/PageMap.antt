@@ -1,7 +1,26 @@
 -- What a contract sees of a map, what the map keeps, and what a call changes of it.
 use Rattle.std.specs.Prelude.{
-  ℕ, ◌+◌, ◌*◌, ◌<◌, ◌≡◌, ◌≢◌, ◌==◌, if◌then◌else◌, List, [], ◌∷◌, length, replicate, slice_index_or, slice_set,
-  Option, None, Some, option_map, All, AllPairs
+  ℕ,
+  ◌+◌,
+  ◌*◌,
+  ◌<◌,
+  ◌≡◌,
+  ◌≢◌,
+  ◌==◌,
+  if◌then◌else◌,
+  List,
+  [],
+  ◌∷◌,
+  length,
+  replicate,
+  slice_index_or,
+  slice_set,
+  Option,
+  None,
+  Some,
+  option_map,
+  All,
+  AllPairs,
 }
 use Rattle.ff_base.specs.Geometry.{IsAllowed}
 use Rattle.ff_base.specs.declared.geometry.Geometry.{Geometry}
@@ -35,7 +54,8 @@ IsOwner map at page = place_of map page ≡ Some at
 
 -- no two pages are at one place, and every page that is mapped is at one of the places
 pub record IsOneToOne (map : MapView) : Type 0 where
-  pub apart : (at : Ppn) (one other : PageNo) → IsOwner map at one → IsOwner map at other → one ≡ other
+  pub apart : (at : Ppn) (one other : PageNo) → IsOwner map at one → IsOwner map at other
+      → one ≡ other
   pub within : (at : Ppn) (page : PageNo) → IsOwner map at page → at.0 < map.places
 
 -- what a map keeps: it is one to one, and its sizes are those of a geometry

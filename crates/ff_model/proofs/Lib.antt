@@ -1,1 +1,4 @@
 pub mod Appended
+pub mod AppendedCalls
+pub mod Ranges
+pub mod Replies

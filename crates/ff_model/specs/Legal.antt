@@ -1,7 +1,10 @@
 -- Which histories are legal: those of a flat byte array.
-use Rattle.std.specs.Prelude.{ℕ, ◌+◌, ◌/◌, ◌≤◌, ◌<◌, ◌≡◌, ◌⊎◌, ◌==◌, ◌&&◌, not, min, Bool, true, false, IsTrue, if◌then◌else◌, List, [], ◌∷◌, ◌++◌, map, fold}
+use Rattle.std.specs.Prelude.{ℕ, ◌+◌, ◌/◌, ◌≤◌, ◌<◌, ◌≡◌, ◌⊎◌, ◌==◌, ◌&&◌, not, min, Bool, true, false, IsTrue, if◌then◌else◌, List, [], ◌∷◌, ◌++◌, map, fold, take, slice_get, Some}
 use Rattle.std.specs.List.{range_with_len}
 use Rattle.ff_base.specs.Count.{last_event}
+use Rattle.ff_base.specs.Geometry.{capacity_of}
+use Rattle.ff_base.specs.declared.geometry.Geometry.{Geometry}
+use Rattle.ff_base.specs.declared.numbers.TheConstants.{PAGE_BYTES}
 use Rattle.ff_model.specs.Image.{Content}
 use Rattle.ff_model.specs.Flat.{flat_byte_of, is_born, born_count}
 use Rattle.ff_model.specs.Spans.{is_in_range}
@@ -20,13 +23,10 @@ pub record Opening : Type 0 where
   pub event : ℕ
   pub faults : ℕ
 
--- the call is a store to a page that isn't born, behind entries after which as many are born as the flash can hold
-abbrev pub is_refused : Opening → List Entry → Op → Bool
-is_refused opening before (Store at bytes) = not (is_born opening.base before (at / 4096)) && (born_count opening.base before opening.pages == opening.capacity)
-is_refused opening before (Load at len) = false
-is_refused opening before Verify = false
-is_refused opening before (Mark page from count) = false
-is_refused opening before (Release page from count) = false
+-- how a session over a geometry is opened: from an image, an event number and a count of faults
+abbrev pub opening_of : Content → Geometry → ℕ → ℕ → Opening
+opening_of base geometry event faults =
+    record { base = base; pages = geometry.pages; capacity = capacity_of geometry; event = event; faults = faults }
 
 -- a call that may meet a fault of the flash
 abbrev pub may_fault : Op → Bool
@@ -48,13 +48,29 @@ served_reply byte Verify = Done
 served_reply byte (Mark page from count) = Done
 served_reply byte (Release page from count) = Done
 
--- the reply that refuses a call, or that serves it: the first line that applies
+-- the reply that refuses a call, or that serves it: the first line that applies. The pages, whether the call is refused
+-- for want of a place, the byte at each address, and the event number are those of its moment
+abbrev pub reply_over : ℕ → Bool → (ℕ → ℕ) → ℕ → Op → Reply
+reply_over pages refused byte event op =
+    if not (is_in_range pages op) then Range
+    else if event == last_event then Spent
+    else if refused then Full
+    else served_reply byte op
+
+-- the call is a store to a page that isn't born, behind entries after which as many are born as the flash can hold
+abbrev pub is_refused : Opening → List Entry → Op → Bool
+is_refused opening before (Store at bytes) =
+    not (is_born opening.base before (at / PAGE_BYTES))
+    && (born_count opening.base before opening.pages == opening.capacity)
+is_refused opening before (Load at len) = false
+is_refused opening before Verify = false
+is_refused opening before (Mark page from count) = false
+is_refused opening before (Release page from count) = false
+
+-- the reply that is due to a call behind these entries, where it meets no fault
 abbrev pub due_reply : Opening → List Entry → ℕ → Op → Reply
 due_reply opening before event op =
-    if not (is_in_range opening.pages op) then Range
-    else if event == last_event then Spent
-    else if is_refused opening before op then Full
-    else served_reply (flat_byte_of opening.base before) op
+    reply_over opening.pages (is_refused opening before op) (flat_byte_of opening.base before) event op
 
 -- the call isn't refused
 abbrev pub is_served : Reply → Bool
@@ -95,3 +111,10 @@ LegalAfter opening before (entry ∷ later) = MayFollow opening before entry × 
 -- the history is one of a flat byte array
 abbrev pub IsLegal : Opening → List Entry → Type 0
 IsLegal opening entries = LegalAfter opening [] entries
+
+-- the entry at a place may not stand behind those before it, which are legal
+pub record IsFirstIllegal (opening : Opening) (entries : List Entry) (at : ℕ) : Type 0 where
+  pub before : IsLegal opening (take at entries)
+  pub entry : Entry
+  pub there : slice_get entries at ≡ Some entry
+  pub fails : MayFollow opening (take at entries) entry → ⊥

@@ -1,15 +1,18 @@
 -- Which bytes and lines a call may name.
 use Rattle.std.specs.Prelude.{ℕ, ◌+◌, ◌*◌, ◌%◌, ◌&&◌, nat_le, nat_lt, Bool, true, length}
+use Rattle.ff_base.specs.declared.numbers.TheConstants.{LINE_BYTES, PAGE_BYTES, PAGE_LINES}
 use Rattle.ff_model.specs.declared.op.Op.{Op}
 use Rattle.ff_model.specs.declared.op.Op.TheVariants.{Load, Store, Verify, Mark, Release}
 
 -- a span of bytes is some bytes of one line of the pages
 abbrev pub is_span : ℕ → ℕ → ℕ → Bool
-is_span pages at len = nat_le 1 len && nat_le len 64 && nat_le (at % 64 + len) 64 && nat_le (at + len) (pages * 4096)
+is_span pages at len =
+    nat_le 1 len && nat_le len LINE_BYTES && nat_le (at % LINE_BYTES + len) LINE_BYTES
+    && nat_le (at + len) (pages * PAGE_BYTES)
 
 -- a range of lines is some lines of one of the pages
 abbrev pub is_line_range : ℕ → ℕ → ℕ → ℕ → Bool
-is_line_range pages page from count = nat_lt page pages && nat_le 1 count && nat_le (from + count) 64
+is_line_range pages page from count = nat_lt page pages && nat_le 1 count && nat_le (from + count) PAGE_LINES
 
 -- the call is in range
 abbrev pub is_in_range : ℕ → Op → Bool

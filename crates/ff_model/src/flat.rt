@@ -1,3 +1,4 @@
+// The flat byte of a history, by its definition.
 ghost use Rattle.std.specs.Prelude.{◌≡◌};
 ghost use Rattle.ff_model.specs.Flat.{covering_byte, flat_byte_of, is_done, latest, stored_byte};
 
@@ -9,7 +10,14 @@ use crate::{Entry, History, Image, Op, Reply};
 pub fn flat_byte(base: &Image, history: &History, at: u32) -> u8
     ensures { result ≡ flat_byte_of base.now history.now.entries at }
 {
-    match latest_byte(history.as_slice(), at) {
+    flat_byte_after(base, history.as_slice(), at)
+}
+
+/// The byte at an address after these entries.
+pub(crate) fn flat_byte_after(base: &Image, entries: &[Entry], at: u32) -> u8
+    ensures { result ≡ flat_byte_of base.now entries.now at }
+{
+    match latest_byte(entries, at) {
         Some(byte) => byte,
         None => base.byte(at),
     }

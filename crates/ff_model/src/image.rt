@@ -1,5 +1,7 @@
-ghost use Rattle.std.specs.Prelude.{◌≡◌, ◌<◌, ◌↔◌, IfOk, IsTrue, IsSome, length};
-ghost use Rattle.ff_model.specs.Image.{byte_at, byte_in, empty_content, held_page, line_in};
+// What a remount finds: held pages and marked lines.
+ghost use Rattle.std.specs.Prelude.{◌≡◌, ◌<◌, ◌↔◌, IfOk, OnOk, OnErr, IsTrue, IsSome, length, slice_index, vec_len};
+ghost use Rattle.std.specs.Option.{option_copied};
+ghost use Rattle.ff_model.specs.Image.{byte_at, byte_in, empty_content, held_page, line_in, with_marked, with_held};
 
 use ff_base::{LINE_BYTES, Marks, NoMemory, PAGE_BYTES, PageBuf, PageNo};
 use std::alloc::Global;
@@ -9,6 +11,7 @@ use std::marker::Model;
 /// zeros.
 #[derive(Drop)]
 pub struct Image {
+    alloc: Global,
     pages: Vec<Option<PageBuf>>,
     marks: Marks,
 }
@@ -21,7 +24,9 @@ impl Model for Image {
 
     ghost view = { λ a. record { pages = a.pages.items; marks = a.marks } };
 
-    ghost invariant = { λ a. length a.marks ≡ vec_len a.pages };
+    ghost use Rattle.ff_model.specs.ImageFields.{IsKept};
+
+    ghost invariant = { IsKept };
 }
 
 impl Image {
@@ -31,7 +36,67 @@ impl Image {
     {
         let marks = Marks::new(alloc, pages)?;
         let pages = no_pages(alloc, pages)?;
-        Ok(Image { pages, marks })
+        Ok(Image {
+            alloc,
+            pages,
+            marks,
+        })
+    }
+
+    /// An equal image.
+    pub fn copy(&self, alloc: Global) -> Result<Image, NoMemory>
+        ensures { IfOk result (λ image. image ≡ self.now) }
+    {
+        Ok(Image {
+            alloc,
+            pages: copied(alloc, &self.pages)?,
+            marks: self.marks.copy(alloc)?,
+        })
+    }
+
+    /// Holds a page with these bytes, in place of those that it held. Want of memory leaves the image as it was.
+    pub fn put(&mut self, page: PageNo, from: &PageBuf) -> Result<(), NoMemory>
+        requires { page.0 < length self.old.pages }
+        ensures ok { OnOk result (self.new ≡ with_held self.old page.0 from.now) }
+        ensures err { OnErr result (self.new ≡ self.old) }
+    {
+        let held = from.copy(self.alloc)?;
+        self.pages[page.0 as usize] = Some(held);
+        Ok(())
+    }
+
+    /// Marks these lines of the page, bit i for line i, and no other of it.
+    pub fn set_marks(&mut self, page: PageNo, lines: u64)
+        requires { page.0 < length self.old.pages }
+        ensures { self.new ≡ with_marked self.old page.0 lines }
+    {
+        self.marks.set_lines(page, lines);
+    }
+
+    /// The marked lines of the page.
+    pub fn marks(&self, page: PageNo) -> u64
+        requires { page.0 < length self.now.pages }
+        ensures { result ≡ slice_index self.now.marks page.0 }
+    {
+        self.marks.lines(page)
+    }
+
+    /// How many pages the image is for, held or not.
+    pub fn pages(&self) -> u32
+        ensures { result ≡ length self.now.pages }
+    {
+        let _alloc = &self.alloc;
+        self.pages.len() as u32
+    }
+
+    /// The bytes of a page, where the image holds it.
+    pub fn page(&self, page: PageNo) -> Option<&PageBuf>
+        ensures { option_copied result ≡ held_page self.now page.0 }
+    {
+        match self.pages.get(page.0 as usize) {
+            Some(page) => page.as_ref(),
+            None => None,
+        }
     }
 
     pub fn holds(&self, page: PageNo) -> bool
@@ -71,7 +136,7 @@ fn no_pages(alloc: Global, pages: u32) -> Result<Vec<Option<PageBuf>>, NoMemory>
     Ok(all)
 }
 
-#[tactic(auto, unfolding(crate::specs::Image::blank_line))]
+#[tactic(auto, unfolding(ff_base::specs::Page::blank_line))]
 fn line_of(page: &Option<PageBuf>, line: u8) -> [u8; LINE_BYTES]
     requires { line < 64 }
     ensures { result ≡ line_in page.now line }
@@ -89,5 +154,25 @@ fn byte_of(page: &Option<PageBuf>, offset: usize) -> u8
     match page {
         Some(page) => page.line((offset / LINE_BYTES) as u8)[offset % LINE_BYTES],
         None => 0,
+    }
+}
+
+fn copied(alloc: Global, pages: &[Option<PageBuf>]) -> Result<Vec<Option<PageBuf>>, NoMemory>
+    ensures items { IfOk result (λ copy. copy.items ≡ pages.now) }
+    ensures len { IfOk result (λ copy. vec_len copy ≡ length pages.now) }
+{
+    let mut copy = Vec::with_capacity(alloc, pages.len())?;
+    for page in pages {
+        copy.push(copy_of(alloc, page)?)?;
+    }
+    Ok(copy)
+}
+
+fn copy_of(alloc: Global, page: &Option<PageBuf>) -> Result<Option<PageBuf>, NoMemory>
+    ensures { IfOk result (λ copy. copy ≡ page.now) }
+{
+    match page {
+        Some(page) => Ok(Some(page.copy(alloc)?)),
+        None => Ok(None),
     }
 }

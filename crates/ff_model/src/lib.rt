@@ -2,16 +2,20 @@
 //! from, and the flat byte array that the replies are those of.
 #![tactic(auto)]
 
+mod counts;
 mod flat;
 mod history;
 mod image;
+mod judge;
 mod op;
 mod piece;
 #[cfg(test)]
 mod tests;
 
+pub use counts::{Counts, Kind, KindTurns, TurnCounts};
 pub use flat::flat_byte;
 pub use history::{Entry, History};
 pub use image::Image;
+pub use judge::first_illegal;
 pub use op::{Op, Reply};
 pub use piece::{PIECE_BYTES, Piece};

@@ -1,3 +1,4 @@
+// The calls of the simulated program, and their replies.
 ghost use Rattle.std.specs.Prelude.{◌≡◌, ◌<◌, ◌^◌};
 ghost use Rattle.ff_model.specs.Spans.{is_in_range, is_line_range, is_span};
 

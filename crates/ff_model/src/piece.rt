@@ -1,3 +1,4 @@
+// The bytes of one call.
 ghost use Rattle.std.specs.Prelude.{◌≡◌, ◌<◌, ◌≤◌, ◌++◌, ◌∷◌, [], List, ℕ, length};
 
 use arrayvec::ArrayVec;

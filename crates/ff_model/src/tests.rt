@@ -1,7 +1,8 @@
+// Calls, replies, histories and images, each public call once.
 ghost use Rattle.std.specs.Prelude.{◌≤◌, length};
 
 use super::*;
-use ff_base::{Caller, PageNo};
+use ff_base::{Caller, Geometry, LAST_EVENT, PageBuf, PageNo};
 use std::test::Fail;
 
 fn entry(op: Op, reply: Reply) -> Entry {
@@ -138,4 +139,83 @@ fn a_call_is_in_range_within_a_line_and_the_pages(rt: HostRuntime) {
     assert!(rt; store(63, &[1]).is_in_range(16));
     assert!(rt; !store(63, &[1, 2]).is_in_range(16));
     assert!(rt; !store(63, &[]).is_in_range(16));
+}
+
+#[test]
+fn an_image_holds_pages_and_marks(rt: HostRuntime) -> Result<(), Fail> {
+    let mut page = PageBuf::new(rt.alloc())?;
+    page.set_line(1, &[7; 64]);
+    let mut image = Image::new(rt.alloc(), 2)?;
+    image.put(PageNo(1), &page)?;
+    image.set_marks(PageNo(0), 5);
+    let copy = image.copy(rt.alloc())?;
+    assert_eq!(rt; copy.pages(), 2);
+    assert!(rt; copy.holds(PageNo(1)) && !copy.holds(PageNo(0)));
+    assert!(rt; copy.page(PageNo(0)).is_none());
+    assert!(rt;
+        copy.page(PageNo(1))
+            .is_some_and(|page| page.line(1) == [7; 64])
+    );
+    assert_eq!(rt; copy.byte(4096 + 64), 7);
+    assert_eq!(rt; (copy.marks(PageNo(0)), copy.marks(PageNo(1))), (5, 0));
+    Ok(())
+}
+
+#[test]
+fn turns_are_counted_by_kind(rt: HostRuntime) {
+    let mut turns = TurnCounts::default();
+    turns.add(Kind::Collect, true);
+    let collect = KindTurns { made: 1, did: 1 };
+    for kind in [Kind::Promote, Kind::Evict, Kind::Drain] {
+        assert_eq!(rt; turns.of(kind), KindTurns::default());
+    }
+    assert_eq!(rt; turns.of(Kind::Collect), collect);
+}
+
+fn answered(event: u64, faults: u64, op: Op, reply: Reply) -> Entry {
+    Entry {
+        event,
+        caller: Caller(0),
+        number: 0,
+        op,
+        reply,
+        faults,
+    }
+}
+
+// An event number, a count of faults, a call and its reply, behind a store of 7 at address 10 in event 2. The second
+// row says whether it may stand there.
+fn last_entries() -> [(Entry, bool); 12] {
+    let load = || Op::Load { at: 10, len: 1 };
+    let byte = |byte| Reply::Bytes(Piece::from_slice(&[byte]));
+    [
+        (answered(3, 0, load(), byte(7)), true),
+        (answered(3, 0, load(), byte(0)), false),
+        (answered(2, 0, load(), byte(7)), false),
+        (answered(LAST_EVENT, 0, load(), Reply::Spent), true),
+        (answered(LAST_EVENT, 0, load(), byte(7)), false),
+        (answered(LAST_EVENT + 1, 0, load(), Reply::Spent), false),
+        (answered(3, 1, load(), Reply::Fault), true),
+        (answered(3, 0, load(), Reply::Fault), false),
+        (answered(3, 1, Op::Verify, Reply::Fault), false),
+        (
+            answered(3, 0, Op::Load { at: 60, len: 8 }, Reply::Range),
+            true,
+        ),
+        (answered(3, 0, store(4096, &[1]), Reply::Full), false),
+        (answered(3, 0, store(4096, &[1]), Reply::Done), true),
+    ]
+}
+
+#[test]
+fn the_first_illegal_entry_is_found(rt: HostRuntime) -> Result<(), Fail> {
+    let base = Image::new(rt.alloc(), 16)?;
+    for (entry, is_legal) in last_entries() {
+        let mut history = History::new(rt.alloc(), 2)?;
+        history.push(answered(2, 0, store(10, &[7]), Reply::Done));
+        history.push(entry);
+        let found = first_illegal(&base, &history, &Geometry::default(), 0, 0);
+        assert_eq!(rt; found, if is_legal { None } else { Some(1) });
+    }
+    Ok(())
 }

@@ -1,1 +1,3 @@
-pub mod Written
+pub mod Held
+pub mod InOrder
+pub mod Ranges

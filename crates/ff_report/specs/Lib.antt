@@ -1,1 +1,9 @@
+pub mod CountsText
+pub mod EntryText
+pub mod ImageText
+pub mod Remounted
+pub mod RemountedFields
+pub mod SessionParts
+pub mod SessionPartsFields
 pub mod Text
+pub mod Wrote

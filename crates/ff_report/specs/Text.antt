@@ -1,51 +1,55 @@
--- How a session is spelled. Every line ends with LF, numbers are decimal, and bytes are lower-case hexadecimal digits.
-use Rattle.std.specs.Prelude.{ℕ, ◌==◌, ◌&&◌, if◌then◌else◌, List, [], ◌∷◌, ◌++◌, codes, decimal}
+-- The texts of a session. Every line ends with LF, numbers are decimal, and bytes are lower-case
+-- hexadecimal digits.
+use Rattle.std.specs.Prelude.{ℕ, List, [], ◌∷◌, ◌++◌, codes, decimal, length}
 use Rattle.std.specs.List.{flat_map}
-use Rattle.hex.specs.Hex.{encode_lower}
 use Rattle.ff_model.specs.declared.history.Entry.{Entry}
-use Rattle.ff_model.specs.declared.op.Op.{Op}
-use Rattle.ff_model.specs.declared.op.Op.TheVariants.{Load, Store, Verify, Mark, Release}
-use Rattle.ff_model.specs.declared.op.Reply.{Reply}
-use Rattle.ff_model.specs.declared.op.Reply.TheVariants.{Bytes, Done, Range, Spent, Full, Fault}
-use Rattle.ff_report.specs.declared.session.Session.{Session}
+use Rattle.ff_report.specs.CountsText.{turns_line, lines_line, moves_line, flash_line, kept_line}
+use Rattle.ff_report.specs.EntryText.{entries_text}
+use Rattle.ff_report.specs.ImageText.{image_line, image_text}
+use Rattle.ff_report.specs.SessionParts.{SessionPartsView}
 
--- bytes as digits, and a dash where there is none
-abbrev pub bytes_text : List ℕ → List ℕ
-bytes_text [] = codes "-"
-bytes_text (byte ∷ bytes) = encode_lower (byte ∷ bytes)
-
--- a page and a range of its lines: all lines are left out
-abbrev pub lines_text : ℕ → ℕ → ℕ → List ℕ
-lines_text page from count =
-    if (from == 0) && (count == 64) then decimal page
-    else decimal page ++ codes " " ++ decimal from ++ codes "+" ++ decimal count
-
--- a call
-abbrev pub op_text : Op → List ℕ
-op_text (Load at len) = codes "load " ++ decimal at ++ codes " " ++ decimal len
-op_text (Store at bytes) = codes "store " ++ decimal at ++ codes " " ++ bytes_text bytes
-op_text Verify = codes "verify"
-op_text (Mark page from count) = codes "mark " ++ lines_text page.0 from count
-op_text (Release page from count) = codes "release " ++ lines_text page.0 from count
-
--- an answer
-abbrev pub reply_text : Reply → List ℕ
-reply_text (Bytes bytes) = bytes_text bytes
-reply_text Done = codes "done"
-reply_text Range = codes "range"
-reply_text Spent = codes "spent"
-reply_text Full = codes "full"
-reply_text Fault = codes "fault"
-
--- the line of an entry: caller, number, call and answer
-unfoldable pub entry_line : Entry → List ℕ
-entry_line entry =
-    decimal entry.caller.0 ++ codes " " ++ decimal entry.number ++ codes " " ++ op_text entry.op ++ codes " " ++ reply_text entry.reply ++ codes "\n"
+-- lines, one after the other
+abbrev pub lines_text : List (List ℕ) → List ℕ
+lines_text lines = flat_map (λ line. line) lines
 
 -- the line that opens the text of a session, counted from 0
-abbrev pub session_line : ℕ → List ℕ
+unfoldable pub session_line : ℕ → List ℕ
 session_line at = codes "session " ++ decimal at ++ codes "\n"
 
+-- the line that ends a text
+unfoldable pub end_line : List ℕ
+end_line = codes "end\n"
+
+-- a session's calls
+abbrev pub calls_text : ℕ → List Entry → List ℕ
+calls_text at entries = session_line at ++ entries_text entries
+
+-- the text of a session that has nothing but its history
+abbrev pub history_text : ℕ → List Entry → List ℕ
+history_text at entries = calls_text at entries ++ end_line
+
+-- the lines of a session's numbers: what it counted, and how many pages its image holds
+abbrev pub number_lines : SessionPartsView → List (List ℕ)
+number_lines session =
+    turns_line session.turns ∷ lines_line session.counts ∷ moves_line session.counts
+    ∷ flash_line session.counts ∷ kept_line session.kept ∷ image_line session.image ∷ []
+
 -- the text of a session
-abbrev pub session_text : ℕ → Session → List ℕ
-session_text at session = session_line at ++ flat_map entry_line session.history.entries ++ codes "end\n"
+abbrev pub session_text : ℕ → SessionPartsView → List ℕ
+session_text at session =
+    calls_text at session.entries
+    ++ (lines_text (number_lines session) ++ (image_text session.image ++ end_line))
+
+-- the line that opens the summary of a generated trace, with the number that it was made of
+unfoldable pub load_line : ℕ → List ℕ
+load_line number = codes "load " ++ decimal number ++ codes "\n"
+
+-- the line of how many calls were answered
+unfoldable pub calls_line : ℕ → List ℕ
+calls_line calls = codes "calls " ++ decimal calls ++ codes "\n"
+
+-- the summary of a session whose trace was generated
+abbrev pub summary_text : ℕ → SessionPartsView → List ℕ
+summary_text number session =
+    lines_text (load_line number ∷ calls_line (length session.entries) ∷ [])
+    ++ (lines_text (number_lines session) ++ end_line)

@@ -1,13 +1,22 @@
-//! The text of a session: what was called, what was answered, one line each.
+//! The texts of a session: what was called and answered, what was counted, and the image that the
+//! remount after it found. A line of text is one write, and no call takes memory.
 #![tactic(auto)]
 
+mod calls;
+mod counts;
+mod entry;
+mod image;
+mod image_lines;
 mod line;
-mod report;
+mod parts;
 mod session;
-mod spelling;
+mod summary;
 #[cfg(test)]
 mod tests;
+mod writing;
 
+pub use calls::write_history;
 pub use line::{LINE_ROOM, Line};
-pub use report::write_session;
-pub use session::Session;
+pub use parts::{Remounted, SessionParts};
+pub use session::write_session;
+pub use summary::write_summary;

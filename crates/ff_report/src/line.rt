@@ -1,13 +1,15 @@
+// A line of text that is being spelled.
 ghost use Rattle.std.specs.Prelude.{◌≡◌, ◌≤◌, ◌+◌, ◌*◌, ◌++◌, [], decimal, length};
 ghost use Rattle.hex.specs.Hex.{encode_lower};
-ghost use Rattle.ff_report.specs.Text.{bytes_text};
+ghost use Rattle.ff_report.specs.EntryText.{bytes_text};
 
 use arrayvec::ArrayVec;
 use ff_model::PIECE_BYTES;
 use itoa::Buffer;
 use std::marker::Model;
 
-/// Room for the longest line: a store of a whole piece that is answered by a whole piece takes under 300 bytes.
+/// Room for the longest line: a store of a whole piece that is answered by a whole piece takes less
+/// than 300 bytes.
 pub const LINE_ROOM: usize = 320;
 
 /// A line of text that is being spelled. A contract sees it as its bytes.
@@ -34,6 +36,7 @@ impl Line {
         }
     }
 
+    /// Its bytes.
     pub fn as_slice(&self) -> &[u8]
         ensures { result.now ≡ self.now }
     {
@@ -63,6 +66,17 @@ impl Line {
         self.text(digits.as_bytes());
     }
 
+    /// Appends the number in decimal digits.
+    pub fn count(&mut self, count: u64)
+        requires { length self.old + 20 ≤ LINE_ROOM }
+        ensures text { self.new ≡ self.old ++ decimal count }
+        ensures size { length self.new ≤ length self.old + 20 }
+    {
+        let mut buffer = Buffer::new();
+        let digits = buffer.format(count);
+        self.text(digits.as_bytes());
+    }
+
     /// Appends the bytes as digits, or a dash where there is none.
     pub fn bytes(&mut self, bytes: &[u8])
         requires count { length bytes.now ≤ PIECE_BYTES }
@@ -77,11 +91,11 @@ impl Line {
         }
     }
 
-    fn digits(&mut self, bytes: &[u8])
+    pub(crate) fn digits(&mut self, bytes: &[u8])
         requires count { length bytes.now ≤ PIECE_BYTES }
-        requires room { length self.old + 2 * PIECE_BYTES ≤ LINE_ROOM }
+        requires room { length self.old + 2 * length bytes.now ≤ LINE_ROOM }
         ensures text { self.new ≡ self.old ++ encode_lower bytes.now }
-        ensures size { length self.new ≤ length self.old + 2 * PIECE_BYTES }
+        ensures size { length self.new ≡ length self.old + 2 * length bytes.now }
     {
         let mut room = [0; 2 * PIECE_BYTES];
         let digits = &mut room[..2 * bytes.len()];

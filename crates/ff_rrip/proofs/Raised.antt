@@ -4,11 +4,13 @@ use Rattle.std.proofs.lemmas.Grind.{same_number_lists}
 use Rattle.ff_rrip.specs.Ways.{raised, raised_from, raised_value}
 
 -- raising keeps the number of ways
-length-raised_from : (way allowed by : ℕ) (values : List ℕ) → length (raised_from way allowed by values) ≡ length values
+length-raised_from : (way allowed by : ℕ) (values : List ℕ)
+    → length (raised_from way allowed by values) ≡ length values
 length-raised_from way allowed by [] = refl
 length-raised_from way allowed by (value ∷ later) = ap (λ (n : ℕ). suc n) (length-raised_from (way + 1) allowed by later)
 
-pub length-raised : (allowed by : ℕ) (values : List ℕ) → length (raised allowed by values) ≡ length values
+pub length-raised : (allowed by : ℕ) (values : List ℕ)
+    → length (raised allowed by values) ≡ length values
 length-raised allowed by values = length-raised_from 0 allowed by values
 
 -- each value is raised by itself
@@ -30,7 +32,8 @@ get_or-raised allowed by values k within =
 
 -- values that are each raised by themselves
 pub raised_is : (allowed by : ℕ) (old new : List ℕ) → length new ≡ length old
-    → ((k : ℕ) → k < length old → get_or new k 0 ≡ raised_value allowed by k (get_or old k 0)) → new ≡ raised allowed by old
+    → ((k : ℕ) → k < length old → get_or new k 0 ≡ raised_value allowed by k (get_or old k 0))
+    → new ≡ raised allowed by old
 raised_is allowed by old new len each =
     same_number_lists new (raised allowed by old) (len ∙ sym (length-raised allowed by old))
     (λ k within. let inside : k < length old = omega arith in each k inside ∙ sym (get_or-raised allowed by old k inside))

@@ -5,17 +5,20 @@ use Rattle.ff_rrip.specs.Ways.{IsAllowedWay, IsWaysSound, IsVictimWay, is_allowe
 use Rattle.ff_rrip.proofs.Raised.{length-raised, get_or-raised}
 
 -- the value of an allowed way
-raised_allowed : (allowed by way value : ℕ) → is_allowed allowed way ≡ true → raised_value allowed by way value ≡ value + by
+raised_allowed : (allowed by way value : ℕ) → is_allowed allowed way ≡ true
+    → raised_value allowed by way value ≡ value + by
 raised_allowed allowed by way value bit = rw bit refl
 
 -- the value of an allowed way after raising
-allowed_value : (allowed by : ℕ) (values : List ℕ) (way : ℕ) → IsAllowedWay (length values) allowed way
+allowed_value : (allowed by : ℕ) (values : List ℕ) (way : ℕ)
+    → IsAllowedWay (length values) allowed way
     → get_or (raised allowed by values) way 0 ≡ get_or values way 0 + by
 allowed_value allowed by values way among =
     get_or-raised allowed by values way among.in_range ∙ raised_allowed allowed by way (get_or values way 0) among.bit
 
 -- the oldest way is the victim once the allowed ways are raised by what it lacks
-pub oldest_victim : (allowed : ℕ) (values : List ℕ) (way by : ℕ) → IsWaysSound values → IsOldest values allowed (length values) way
+pub oldest_victim : (allowed : ℕ) (values : List ℕ) (way by : ℕ) → IsWaysSound values
+    → IsOldest values allowed (length values) way
     → by ≡ 3 - get_or values way 0 → IsVictimWay allowed values (raised allowed by values) way
 oldest_victim allowed values way by kept oldest by_is =
     let among : IsAllowedWay (length values) allowed way = record { in_range = oldest.in_range; bit = oldest.bit } in
@@ -36,7 +39,8 @@ oldest_victim allowed values way by kept oldest by_is =
     }
 
 -- a value after raising is at most 3, if it is so where its way is allowed
-small_after : (allowed by way value new : ℕ) (bit : Bool) → is_allowed allowed way ≡ bit → new ≡ raised_value allowed by way value → value ≤ 3
+small_after : (allowed by way value new : ℕ) (bit : Bool) → is_allowed allowed way ≡ bit
+    → new ≡ raised_value allowed by way value → value ≤ 3
     → (bit ≡ true → new ≤ 3) → new ≤ 3
 small_after allowed by way value new true is new_is small bounded = bounded refl
 small_after allowed by way value new false is new_is small bounded =
@@ -44,7 +48,8 @@ small_after allowed by way value new false is new_is small bounded =
     omega arith
 
 -- the values stay values of two bits
-pub kept_after : (allowed : ℕ) (old new : List ℕ) (way : ℕ) → IsWaysSound old → IsVictimWay allowed old new way → IsWaysSound new
+pub kept_after : (allowed : ℕ) (old new : List ℕ) (way : ℕ) → IsWaysSound old
+    → IsVictimWay allowed old new way → IsWaysSound new
 kept_after allowed old new way kept victim =
     let by : ℕ = victim.raises.0 in
     let is : new ≡ raised allowed by old = victim.raises.1 in

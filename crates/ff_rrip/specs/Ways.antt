@@ -1,6 +1,20 @@
 -- The re-reference values of the ways of a set, what they keep, and which way gives way.
 use Rattle.std.specs.Prelude.{
-  ℕ, ◌+◌, ◌<◌, ◌≤◌, ◌≡◌, ◌≢◌, ◌==◌, Bool, true, if◌then◌else◌, List, [], ◌∷◌, length, slice_index
+  ℕ,
+  ◌+◌,
+  ◌<◌,
+  ◌≤◌,
+  ◌≡◌,
+  ◌≢◌,
+  ◌==◌,
+  Bool,
+  true,
+  if◌then◌else◌,
+  List,
+  [],
+  ◌∷◌,
+  length,
+  slice_index,
 }
 use Rattle.std.specs.Int.{bit_at}
 
@@ -55,6 +69,6 @@ pub record IsVictimWay (allowed : ℕ) (old new : List ℕ) (way : ℕ) : Type 0
   pub among : IsAllowedWay (length old) allowed way
   pub distant : slice_index new way ≡ distant_value
   pub bounded : (other : ℕ) → IsAllowedWay (length old) allowed other
-    → slice_index new other ≤ distant_value
+      → slice_index new other ≤ distant_value
   pub least : (other : ℕ) → other < way → IsAllowedWay (length old) allowed other
-    → slice_index new other ≢ distant_value
+      → slice_index new other ≢ distant_value

@@ -70,7 +70,7 @@ fn raise(values: &mut [u8], allowed: u32, by: u8)
 }
 
 /// Raises the allowed ways until one has the greatest value, and answers the least that has it.
-pub fn victim(values: &mut [u8], allowed: u32) -> Option<usize>
+pub fn victim(values: &mut [u8], allowed: u32) -> Option<u32>
     requires { IsWaysSound values.old }
     ensures found { IfSome result (IsVictimWay allowed values.old values.new) }
     ensures none { IsNone result ↔ NoneAllowed values.old allowed }
@@ -80,5 +80,5 @@ pub fn victim(values: &mut [u8], allowed: u32) -> Option<usize>
     let way = oldest(values, allowed)?;
     let by = DISTANT - values[way];
     raise(values, allowed, by);
-    Some(way)
+    Some(way as u32)
 }

@@ -59,8 +59,7 @@ impl Ways {
         ensures same { IfNone result (self.new ≡ self.old) }
         ensures ways { length self.new ≡ length self.old }
     {
-        let way = victim(&mut self.values, allowed)?;
-        Some(way as u32)
+        victim(&mut self.values, allowed)
     }
 
     /// The value of a way.

@@ -1,15 +1,39 @@
 -- What is read of a table after one of its blocks was changed, and after a collection.
 use Rattle.std.proofs.Common.{
-  ◌≡◌, ◌≢◌, ℕ, ◌+◌, ◌<◌, ◌≤◌, Bool, true, List, length, inl, inr, sym, ap, ◌∙◌, cond, arith, length-set
+  ◌≡◌,
+  ◌≢◌,
+  ℕ,
+  ◌+◌,
+  ◌<◌,
+  ◌≤◌,
+  Bool,
+  true,
+  List,
+  length,
+  inl,
+  inr,
+  sym,
+  ap,
+  ◌∙◌,
+  cond,
+  arith,
+  length-set,
 }
 use Rattle.std.specs.Prelude.{count_by}
 use Rattle.std.proofs.lemmas.Bool.{cases_eq}
 use Rattle.std.proofs.lemmas.List.{get_or-set_same, get_or-set_other}
 use Rattle.std.proofs.lemmas.List.Sums.{get_or-le-sum_by, sum_by-set}
 use Rattle.ff_space.specs.BlockTable.{
-  CanEnd, IsInRange, IsInState, TableView, after_collection, block_at, changed_at, entry_at
+  CanEnd,
+  IsInRange,
+  IsTableSound,
+  TableView,
+  after_collection,
+  block_at,
+  changed_at,
+  entry_at,
 }
-use Rattle.ff_space.specs.Blocks.{emptied, erased_block, filled, waiting}
+use Rattle.ff_space.specs.Blocks.{IsBlockSound, emptied, erased_block, filled, waiting}
 use Rattle.ff_space.specs.declared.block.BlockEntry.{BlockEntry}
 use Rattle.ff_space.specs.declared.block.BlockState.TheVariants.{Full, Held}
 
@@ -49,6 +73,21 @@ each-changed_at P table block change within here there each = elim (cases_eq eac
   | inr apart ↦ rw (block_at-changed_at_other table block change each apart) (there each apart)
 ]
 
+-- a table stays sound where the changed block is
+pub sound-changed_at : (table : TableView) (block : ℕ) (change : BlockEntry → BlockEntry)
+    → IsTableSound table → IsInRange table block
+    → IsBlockSound table.per_block (change (block_at table block))
+    → IsTableSound (changed_at table block change)
+sound-changed_at table block change sound within new = record {
+  per_block = sound.per_block;
+  count = rw (length-changed_at table block change) sound.count;
+  each = λ each inside.
+      each-changed_at (λ n entry. n < length table.blocks → IsBlockSound table.per_block entry)
+      table block change within (λ here. new)
+      (λ other apart there. sound.each other there) each
+      (omega (arith, inside, length-changed_at table block change));
+}
+
 -- one block is changed: how many blocks pass a test
 pub count_by-changed_at : (p : BlockEntry → Bool) (table : TableView) (block : ℕ)
     (change : BlockEntry → BlockEntry) → IsInRange table block
@@ -68,7 +107,8 @@ count_by-some p blocks block within passes =
     omega arith
 
 -- the two blocks of a collection are two
-pub apart_by_state : (table : TableView) (victim into : ℕ) → CanEnd table victim into → victim ≢ into
+pub apart_by_state : (table : TableView) (victim into : ℕ) → CanEnd table victim into
+    → victim ≢ into
 apart_by_state table victim into can same =
     let states : Full ≡ Held =
     sym can.full.state ∙ ap (λ (n : ℕ). (block_at table n).state) same ∙ can.held.state in

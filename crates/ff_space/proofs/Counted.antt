@@ -16,7 +16,8 @@ not_counted Held other = refl
 not_counted Waiting other = refl
 
 -- where no block is erased, the count is 0
-pub count_of_none : (blocks : List BlockEntry) → NoBlock (IsInState blocks Erased) → erased_count blocks ≡ 0
+pub count_of_none : (blocks : List BlockEntry) → NoBlock (IsInState blocks Erased)
+    → erased_count blocks ≡ 0
 count_of_none [] none = refl
 count_of_none (first ∷ later) none =
     let here : is_erased first.state ≡ false = not_counted first.state (λ e. none 0 (record { in_range = omega arith; state = e })) in

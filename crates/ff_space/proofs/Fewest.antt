@@ -9,9 +9,12 @@ use Rattle.ff_space.specs.declared.block.BlockState.TheVariants.{Full}
 abbrev pub FewestFound : ℕ → List BlockEntry → ℕ → Option Block → ℕ → Type 0
 FewestFound per_block blocks end None fewest = fewest ≡ per_block
 FewestFound per_block blocks end (Some found) fewest =
-    (found.0 < end) × ((entry_at blocks found.0).state ≡ Full) × ((entry_at blocks found.0).mapped ≡ fewest) × (fewest < per_block)
-    × ((block : ℕ) → block < found.0 → (entry_at blocks block).state ≡ Full → fewest < (entry_at blocks block).mapped)
+    (found.0 < end) × ((entry_at blocks found.0).state ≡ Full)
+    × ((entry_at blocks found.0).mapped ≡ fewest) × (fewest < per_block)
+    × ((block : ℕ) → block < found.0 → (entry_at blocks block).state ≡ Full
+    → fewest < (entry_at blocks block).mapped)
 
 -- no full block among the first blocks has fewer mapped pages
 abbrev pub IsFewest : List BlockEntry → ℕ → ℕ → Type 0
-IsFewest blocks end fewest = (block : ℕ) → block < end → (entry_at blocks block).state ≡ Full → fewest ≤ (entry_at blocks block).mapped
+IsFewest blocks end fewest = (block : ℕ) → block < end → (entry_at blocks block).state ≡ Full
+    → fewest ≤ (entry_at blocks block).mapped

@@ -1,6 +1,16 @@
 -- What a contract sees of a block table, what the table keeps, and what a call changes of it.
 use Rattle.std.specs.Prelude.{
-  ℕ, ◌+◌, ◌<◌, ◌≤◌, ◌≡◌, List, length, replicate, count_by, slice_index_or, slice_set
+  ℕ,
+  ◌+◌,
+  ◌<◌,
+  ◌≤◌,
+  ◌≡◌,
+  List,
+  length,
+  replicate,
+  count_by,
+  slice_index_or,
+  slice_set,
 }
 use Rattle.ff_base.specs.Geometry.{IsAllowed}
 use Rattle.ff_base.specs.declared.geometry.Geometry.{Geometry}
@@ -56,7 +66,7 @@ pub record CanEnd (table : TableView) (victim into : ℕ) : Type 0 where
   pub full : IsInState table.blocks Full victim
   pub held : IsInState table.blocks Held into
   pub room : (block_at table into).mapped + (block_at table victim).mapped
-    ≤ (block_at table into).next
+      ≤ (block_at table into).next
 
 -- the table at the end of a collection: the victim's mapped pages are the destination's, which is held no more, and
 -- the victim waits, empty
@@ -72,4 +82,4 @@ pub record IsTableSound (table : TableView) : Type 0 where
   pub per_block : IsAllowed PerBlock table.per_block
   pub count : IsAllowed Blocks (length table.blocks)
   pub each : (block : ℕ) → IsInRange table block
-    → IsBlockSound table.per_block (block_at table block)
+      → IsBlockSound table.per_block (block_at table block)

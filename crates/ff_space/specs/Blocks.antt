@@ -48,7 +48,8 @@ is_collectable per_block block = is_full block.state && nat_lt block.mapped per_
 
 -- the state of a block by its write place alone, where it is neither held nor waiting
 abbrev pub state_by_next : ℕ → ℕ → BlockState
-state_by_next per_block next = if next == 0 then Erased else (if next == per_block then Full else Open)
+state_by_next per_block next =
+    if next == 0 then Erased else (if next == per_block then Full else Open)
 
 -- the state of a block after its write place was raised to this one: an open block may become full
 abbrev pub raised_state : ℕ → BlockState → ℕ → BlockState

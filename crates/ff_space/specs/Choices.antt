@@ -1,8 +1,7 @@
 -- Which block is chosen: the least one with a property, looked at over all blocks.
-use Rattle.std.specs.Prelude.{ℕ, ◌+◌, ◌*◌, ◌/◌, ◌<◌, ◌≤◌, ◌≡◌, List, length}
+use Rattle.std.specs.Prelude.{ℕ, ◌+◌, ◌*◌, ◌/◌, ◌<◌, ◌≤◌, ◌≡◌, List}
 use Rattle.ff_space.specs.BlockTable.{IsInState, TableView, block_at, entry_at, erased_count}
 use Rattle.ff_space.specs.declared.block.BlockEntry.{BlockEntry}
-use Rattle.ff_space.specs.declared.block.BlockState.{BlockState}
 use Rattle.ff_space.specs.declared.block.BlockState.TheVariants.{Erased, Open, Full}
 use Rattle.ff_space.specs.declared.table.Place.{Place}
 use Rattle.ff_space.specs.declared.table.Place.TheVariants.{Free, TakeErased, Nowhere}
@@ -25,9 +24,9 @@ NoBlock P = (block : ℕ) → P block → ⊥
 pub record IsVictimBlock (per_block : ℕ) (blocks : List BlockEntry) (block : ℕ) : Type 0 where
   pub has : IsCollectable per_block blocks block
   pub fewest : (other : ℕ) → IsCollectable per_block blocks other
-    → (entry_at blocks block).mapped ≤ (entry_at blocks other).mapped
+      → (entry_at blocks block).mapped ≤ (entry_at blocks other).mapped
   pub first : (other : ℕ) → IsCollectable per_block blocks other
-    → (entry_at blocks other).mapped ≡ (entry_at blocks block).mapped → block ≤ other
+      → (entry_at blocks other).mapped ≡ (entry_at blocks block).mapped → block ≤ other
 
 -- every full block has all its pages mapped
 abbrev pub IsAllMapped : TableView → Type 0

@@ -45,17 +45,6 @@ impl Model for BlockTable {
 /// So many erased blocks are kept for the collector.
 const KEPT_ERASED: u32 = 1;
 
-// So many erased blocks.
-fn erased_blocks(alloc: Global, count: u32) -> Result<Vec<BlockEntry>, NoMemory>
-    ensures { IfOk result (λ blocks. blocks.items ≡ replicate count erased_block) }
-{
-    let mut blocks = Vec::with_capacity(alloc, count as usize)?;
-    for _ in 0..count {
-        blocks.push(BlockEntry::erased())?;
-    }
-    Ok(blocks)
-}
-
 impl BlockTable {
     ghost use Rattle.ff_space.specs.BlockTable.{CanEnd, IsInRange, IsInState, IsTableSound, after_collection, block_at, changed_at, erased_count, new_table};
     ghost use Rattle.ff_space.specs.Choices.{IsAllMapped, IsFreePlace, IsLeast, IsPlace, IsVictimBlock, NoBlock};
@@ -65,7 +54,7 @@ impl BlockTable {
         requires { IsWithinLimits geometry.now }
         ensures { IfOk result (λ table. table ≡ new_table geometry.now) }
     {
-        let blocks = erased_blocks(alloc, geometry.blocks)?;
+        let blocks = vec![in alloc; BlockEntry::erased(); geometry.blocks as usize]?;
         Ok(BlockTable {
             per_block: geometry.per_block,
             erased: geometry.blocks,
@@ -225,7 +214,8 @@ impl BlockTable {
         requires in_range { IsInRange self.old block.0 }
         requires state { (block_at self.old block.0).state ≡ Erased }
         requires next { next ≤ self.old.per_block }
-        ensures { self.new ≡ changed_at self.old block.0 (λ _. block_placed self.old.per_block next) }
+        ensures { self.new
+            ≡ changed_at self.old block.0 (λ _. block_placed self.old.per_block next) }
     {
         self.put(block, BlockEntry::placed(self.per_block, next));
     }

@@ -1,4 +1,5 @@
 pub mod Digits
 pub mod FourFields
+pub mod HexPairs
 pub mod OneRead
 pub mod RowsRead

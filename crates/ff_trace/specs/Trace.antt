@@ -1,11 +1,13 @@
--- Which rows the records of a trace are, and which record is the first that isn't one of the forms.
-use Rattle.std.specs.Prelude.{ℕ, zero, suc, ◌+◌, ◌≡◌, ◌⊎◌, ◌&&◌, nat_le, Bool, false, IsTrue, List, [], ◌∷◌, ◌++◌, length, map, ⊤, Some, is_some}
+-- Which rows the records of a trace are, and which record is the first that is bad.
+use Rattle.std.specs.Prelude.{ℕ, ◌+◌, ◌≡◌, ◌⊎◌, true, false, if◌then◌else◌, List, [], ◌∷◌, ◌++◌, length, map, ⊤, Option, None, Some}
 use Rattle.csv.specs.Reading.{AreRecords, Reached, default_config, strip_bom}
 use Rattle.csv.specs.declared.parser.State.{State}
 use Rattle.csv.specs.declared.parser.State.TheVariants as st
 use Rattle.ff_trace.specs.Fields.{is_header, row_of}
+use Rattle.ff_trace.specs.Tally.{FitAfter, empty_tally, fits, tally_of}
 use Rattle.ff_trace.specs.declared.row.Row.{Row}
-use Rattle.ff_trace.specs.declared.trace_rows.TheConstants.{MAX_ROWS}
+use Rattle.ff_trace.specs.declared.tally.Limits.{Limits}
+use Rattle.ff_trace.specs.declared.tally.Tally.{Tally}
 use Rattle.ff_trace.specs.declared.trace_rows.BadTrace.{BadTrace}
 use Rattle.ff_trace.specs.declared.trace_rows.BadTrace.TheVariants as bad
 
@@ -15,34 +17,47 @@ HasRecords bytes records = AreRecords default_config st.StartRecord (strip_bom b
 
 -- a text begins with these records
 abbrev pub BeginsWith : List ℕ → List (List (List ℕ)) → Type 0
-BeginsWith bytes records = (state : State) × (rest : List ℕ) × Reached default_config st.StartRecord (strip_bom bytes) records state rest
+BeginsWith bytes records =
+    (state : State) × (rest : List ℕ)
+    × Reached default_config st.StartRecord (strip_bom bytes) records state rest
 
--- the record of this number is of one of the forms: record 0 is the header, and at most `MAX_ROWS` rows follow
-abbrev pub is_good : ℕ → List (List ℕ) → Bool
-is_good zero fields = is_header fields
-is_good (suc before) fields = nat_le (suc before) MAX_ROWS && is_some (row_of fields)
-
--- each of these records, numbered from there on, is of one of the forms
-abbrev pub AreGood : ℕ → List (List (List ℕ)) → Type 0
-AreGood number [] = Unit {0}
-AreGood number (fields ∷ later) = IsTrue (is_good number fields) × AreGood (number + 1) later
+-- these records are rows, one a record, and each of them fits behind those before it
+pub record AreRows (limits : Limits) (records : List (List (List ℕ))) (rows : List Row) : Type 0 where
+  pub each : map row_of records ≡ map Some rows
+  pub fit : FitAfter limits empty_tally rows
 
 -- the trace is a header, and then these rows, one a record
-pub record IsTrace (bytes : List ℕ) (rows : List Row) : Type 0 where
+pub record IsTrace (limits : Limits) (bytes : List ℕ) (rows : List Row) : Type 0 where
   pub header : List (List ℕ)
   pub records : List (List (List ℕ))
   pub whole : HasRecords bytes (header ∷ records)
-  pub good : AreGood 0 (header ∷ records)
-  pub each : map row_of records ≡ map Some rows
+  pub named : is_header header ≡ true
+  pub are_rows : AreRows limits records rows
 
--- the record of this number is the first that isn't of one of the forms
-pub record IsFirstBad (bytes : List ℕ) (number : ℕ) : Type 0 where
-  pub good : List (List (List ℕ))
+-- a row, where it fits behind rows of which there are so many
+abbrev pub if_fits : Limits → Tally → Option Row → Option Row
+if_fits limits tally None = None
+if_fits limits tally (Some row) = if fits limits tally row then Some row else None
+
+-- the record of this number is the first that is bad: those between the header and it are rows, and it is none, or none
+-- that fits behind them. Numbers count records, and not lines of the text; the header is record 0
+pub record IsFirstBad (limits : Limits) (bytes : List ℕ) (number : ℕ) : Type 0 where
+  pub header : List (List ℕ)
+  pub records : List (List (List ℕ))
+  pub rows : List Row
   pub fields : List (List ℕ)
-  pub begins : BeginsWith bytes (good ++ fields ∷ [])
-  pub before : AreGood 0 good
-  pub fails : is_good number fields ≡ false
-  pub place : length good ≡ number
+  pub begins : BeginsWith bytes (header ∷ (records ++ fields ∷ []))
+  pub named : is_header header ≡ true
+  pub before : AreRows limits records rows
+  pub fails : if_fits limits (tally_of rows) (row_of fields) ≡ None
+  pub place : length rows + 1 ≡ number
+
+-- the first record is no header
+pub record IsBadHeader (bytes : List ℕ) (number : ℕ) : Type 0 where
+  pub fields : List (List ℕ)
+  pub begins : BeginsWith bytes (fields ∷ [])
+  pub fails : is_header fields ≡ false
+  pub place : number ≡ 0
 
 -- there is no record, and so no header
 pub record HasNoHeader (bytes : List ℕ) (number : ℕ) : Type 0 where
@@ -50,6 +65,7 @@ pub record HasNoHeader (bytes : List ℕ) (number : ℕ) : Type 0 where
   pub place : number ≡ 0
 
 -- why a trace is refused
-abbrev pub IsCauseOf : List ℕ → BadTrace → Type 0
-IsCauseOf bytes bad.NoMemory = ⊤
-IsCauseOf bytes (bad.Row number) = IsFirstBad bytes number ⊎ HasNoHeader bytes number
+abbrev pub IsCauseOf : Limits → List ℕ → BadTrace → Type 0
+IsCauseOf limits bytes bad.NoMemory = ⊤
+IsCauseOf limits bytes (bad.Row number) =
+    IsFirstBad limits bytes number ⊎ IsBadHeader bytes number ⊎ HasNoHeader bytes number

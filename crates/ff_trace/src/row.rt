@@ -1,17 +1,24 @@
-ghost use Rattle.std.specs.Prelude.{◌≡◌, ◌<◌, ◌∷◌, [], Some, length};
+// The row that a record is.
+ghost use Rattle.std.specs.Prelude.{◌≡◌, ◌<◌, ◌∷◌, [], Some, length, option_map};
 ghost use Rattle.csv.specs.Records.{field_at, fields_of};
-ghost use Rattle.ff_trace.specs.Fields.{is_caller, is_header, load_of, op_of, row_of, store_of};
+ghost use Rattle.ff_trace.specs.Fields.{both_of, device_row_of, if_empty, is_header, kind_of, make_call, row_of};
+ghost use Rattle.ff_trace.specs.declared.row.Row.TheVariants.{Power, Turns};
 
-use crate::fields::{bytes, number};
+use crate::calls::call;
+use crate::fields::{self, number};
 use csv::ByteRecord;
 use ff_base::Caller;
-use ff_model::{Op, Piece};
+use ff_model::{Kind, Op};
 
 /// A row of a trace.
 #[derive(Debug, Drop, PartialEq, Eq)]
 pub enum Row {
     /// A call of a caller.
     Call { caller: Caller, op: Op },
+    /// So many background turns of a kind.
+    Turns { kind: Kind, count: u32 },
+    /// A loss of power, before which so many of the waiting posts arrive.
+    Power { arrive: u32 },
 }
 
 /// The row that a record is, if it is of one of the forms.
@@ -69,44 +76,62 @@ fn field(record: &ByteRecord, at: usize) -> &[u8]
 fn row_of_fields(caller: &[u8], op: &[u8], a: &[u8], b: &[u8]) -> Option<Row>
     ensures { result ≡ row_of (caller.now ∷ op.now ∷ a.now ∷ b.now ∷ []) }
 {
-    if !is_caller(caller) {
-        return None;
+    if caller == b"-".as_slice() {
+        device_row(op, a, b)
+    } else {
+        call_row(fields::caller(caller), call(op, a, b))
     }
+}
+
+fn call_row(caller: Option<u16>, op: Option<Op>) -> Option<Row>
+    ensures { result ≡ both_of make_call caller op }
+{
     Some(Row::Call {
-        caller: Caller(0),
-        op: call(op, a, b)?,
+        caller: Caller(caller?),
+        op: op?,
     })
 }
 
-fn is_caller(field: &[u8]) -> bool
-    ensures { result ≡ is_caller field.now }
+fn device_row(op: &[u8], a: &[u8], b: &[u8]) -> Option<Row>
+    ensures { result ≡ if_empty b.now (device_row_of op.now a.now) }
 {
-    number(field) == Some(0)
+    if !b.is_empty() {
+        return None;
+    }
+    if op == b"power".as_slice() {
+        power(number(a))
+    } else {
+        turns(kind(op), number(a))
+    }
 }
 
-fn call(op: &[u8], a: &[u8], b: &[u8]) -> Option<Op>
-    ensures { result ≡ op_of op.now a.now b.now }
+fn power(arrive: Option<u32>) -> Option<Row>
+    ensures { result ≡ option_map (λ arrive. Power arrive) arrive }
 {
-    if op == b"load".as_slice() {
-        load(number(a), number(b))
-    } else if op == b"store".as_slice() {
-        store(number(a), bytes(b))
+    Some(Row::Power { arrive: arrive? })
+}
+
+fn turns(kind: Option<Kind>, count: Option<u32>) -> Option<Row>
+    ensures { result ≡ both_of Turns kind count }
+{
+    Some(Row::Turns {
+        kind: kind?,
+        count: count?,
+    })
+}
+
+fn kind(op: &[u8]) -> Option<Kind>
+    ensures { result ≡ kind_of op.now }
+{
+    if op == b"promote".as_slice() {
+        Some(Kind::Promote)
+    } else if op == b"evict".as_slice() {
+        Some(Kind::Evict)
+    } else if op == b"collect".as_slice() {
+        Some(Kind::Collect)
+    } else if op == b"drain".as_slice() {
+        Some(Kind::Drain)
     } else {
         None
     }
-}
-
-fn load(at: Option<u32>, len: Option<u32>) -> Option<Op>
-    ensures { result ≡ load_of at len }
-{
-    Some(Op::Load { at: at?, len: len? })
-}
-
-fn store(at: Option<u32>, bytes: Option<Piece>) -> Option<Op>
-    ensures { result ≡ store_of at bytes }
-{
-    Some(Op::Store {
-        at: at?,
-        bytes: bytes?,
-    })
 }

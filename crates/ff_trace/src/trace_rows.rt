@@ -1,53 +1,78 @@
-ghost use Rattle.std.specs.Prelude.{◌≡◌, ◌≤◌, ◌++◌, ◌∷◌, [], IfOk, IfErr, OnOk, vec_len};
+// The records of a trace, from the header to the last row.
+ghost use Rattle.std.specs.Prelude.{◌≡◌, ◌≤◌, ◌++◌, ◌∷◌, [], IfOk, IfErr, IfSome, OnOk, Some, vec_len};
 ghost use Rattle.csv.specs.Records.{fields_of};
-ghost use Rattle.ff_trace.specs.Reading.{HasRead, ReadsOne};
+ghost use Rattle.ff_trace.specs.Fields.{row_of};
+ghost use Rattle.ff_trace.specs.Reading.{HasRead, IsSetForTrace, ReadsOne};
 ghost use Rattle.ff_trace.specs.declared.trace_rows.BadTrace.TheVariants as bad;
-ghost use Rattle.ff_trace.specs.Trace.{IsTrace, IsCauseOf};
+ghost use Rattle.ff_trace.specs.Tally.{most_rows, with_row};
+ghost use Rattle.ff_trace.specs.Trace.{IsTrace, IsCauseOf, if_fits};
 
 use crate::Row;
 use crate::row::{is_header, row_from};
-use csv::{ByteRecord, Reader, ReaderBuilder};
+use crate::tally::{Limits, MAX_ROWS, Tally};
+use csv::{ByteRecord, ErrorKind, Reader, ReaderBuilder};
 use std::alloc::Global;
 
-/// The most rows of a trace, without the header.
-pub const MAX_ROWS: u32 = 262_144;
+/// The bytes of the shortest row, `0,load,0,0`, and of the end of its line.
+const LEAST_ROW_BYTES: usize = 11;
 
 /// Why a trace was refused.
 #[derive(Clone, Copy, Debug, PartialEq, Eq)]
 pub enum BadTrace {
     NoMemory,
-    /// The number of the first record that isn't one of the forms. The header is record 0.
+    /// The number of the first record that isn't one of the forms. The header is record 0. Records
+    /// are counted, and not lines of the text.
     Row(u32),
 }
 
-/// Reads the rows of a trace. `csv` says what a record is.
-pub fn trace(alloc: Global, bytes: &[u8]) -> Result<Vec<Row>, BadTrace>
-    ensures rows { IfOk result (λ rows. IsTrace bytes.now rows.items) }
-    ensures few { IfOk result (λ rows. vec_len rows ≤ MAX_ROWS) }
-    ensures cause { IfErr result (IsCauseOf bytes.now) }
+/// Reads the rows of a trace that is run under settings with so many cuts, by one thread or by a thread for each
+/// caller. `csv` says what a record is.
+pub fn trace(alloc: Global, bytes: &[u8], cuts: u32, threads: bool) -> Result<Vec<Row>, BadTrace>
+    ensures rows { IfOk result (λ rows.
+        IsTrace (record { cuts = cuts; threads = threads }) bytes.now rows.items) }
+    ensures few { IfOk result (λ rows. vec_len rows ≤ most_rows) }
+    ensures cause { IfErr result (IsCauseOf (record { cuts = cuts; threads = threads }) bytes.now) }
 {
+    let limits = Limits { cuts, threads };
     let mut reader = reader(alloc, bytes);
-    let mut record = ByteRecord::new(alloc);
-    if !read(&mut reader, &mut record)? {
+    let mut fields = ByteRecord::new(alloc);
+    if !read(&mut reader, &mut fields)? {
         return Err(BadTrace::Row(0));
     }
-    if !is_header(&record) {
+    if !is_header(&fields) {
         return Err(BadTrace::Row(0));
     }
-    let mut rows = Vec::new(alloc);
-    for number in 1..=MAX_ROWS {
-        if !read(&mut reader, &mut record)? {
+    let mut rows = make_rows(alloc, bytes)?;
+    let mut tally = Tally::new();
+    for number in 1..=MAX_ROWS + 1 {
+        if !read(&mut reader, &mut fields)? {
             return Ok(rows);
         }
-        let Some(row) = row_from(&record) else {
+        let Some(row) = next_row(&mut tally, limits, &fields) else {
             return Err(BadTrace::Row(number));
         };
         push(&mut rows, row)?;
     }
-    if read(&mut reader, &mut record)? {
-        return Err(BadTrace::Row(MAX_ROWS + 1));
+    unreachable!()
+}
+
+/// The row that a record is, if it fits behind those that were counted. It is counted too.
+fn next_row(tally: &mut Tally, limits: Limits, fields: &ByteRecord) -> Option<Row>
+    ensures row { result ≡ if_fits limits tally.old (row_of (fields_of fields.now)) }
+    ensures counted { IfSome result (λ row. tally.new ≡ with_row tally.old row) }
+{
+    count_row(tally, limits, row_from(fields)?)
+}
+
+fn count_row(tally: &mut Tally, limits: Limits, row: Row) -> Option<Row>
+    ensures row { result ≡ if_fits limits tally.old (Some row) }
+    ensures counted { IfSome result (λ row. tally.new ≡ with_row tally.old row) }
+{
+    if !tally.fits(limits, &row) {
+        return None;
     }
-    Ok(rows)
+    tally.add(limits, &row);
+    Some(row)
 }
 
 fn reader(alloc: Global, bytes: &[u8]) -> Reader<&[u8]>
@@ -59,16 +84,34 @@ fn reader(alloc: Global, bytes: &[u8]) -> Reader<&[u8]>
         .from_reader(alloc, bytes)
 }
 
-/// The next record into `record`, and whether there was one.
-#[tactic(auto, using(crate::proofs::OneRead::one_read))]
-fn read(reader: &mut Reader<&[u8]>, record: &mut ByteRecord) -> Result<bool, BadTrace>
-    ensures reads { IfOk result (λ found. ReadsOne reader.old reader.new found (fields_of «record».new)) }
+/// No rows, with room for as many as the text may have. Room that isn't used takes no memory.
+fn make_rows(alloc: Global, bytes: &[u8]) -> Result<Vec<Row>, BadTrace>
+    ensures empty { IfOk result (λ rows. rows.items ≡ []) }
     ensures cause { IfErr result (λ cause. cause ≡ bad.NoMemory) }
 {
-    let Ok(found) = reader.read_byte_record(record) else {
-        return Err(BadTrace::NoMemory);
-    };
-    Ok(found)
+    let most = (bytes.len() / LEAST_ROW_BYTES + 1).min(MAX_ROWS as usize);
+    match Vec::with_capacity(alloc, most) {
+        Ok(rows) => Ok(rows),
+        Err(_) => Err(BadTrace::NoMemory),
+    }
+}
+
+/// The next record into `fields`, and whether there was one. A slice doesn't fail, so an error is
+/// want of memory.
+#[tactic(auto, using(crate::proofs::OneRead::one_read))]
+fn read(reader: &mut Reader<&[u8]>, fields: &mut ByteRecord) -> Result<bool, BadTrace>
+    requires { IsSetForTrace reader.old }
+    ensures reads { IfOk result (λ found.
+        ReadsOne reader.old reader.new found (fields_of fields.new)) }
+    ensures cause { IfErr result (λ cause. cause ≡ bad.NoMemory) }
+{
+    match reader.read_byte_record(fields) {
+        Ok(found) => Ok(found),
+        Err(error) => match error.kind() {
+            ErrorKind::Io(_) | ErrorKind::OutOfMemory => Err(BadTrace::NoMemory),
+            _ => unreachable!(),
+        },
+    }
 }
 
 fn push(rows: &mut Vec<Row>, row: Row) -> Result<(), BadTrace>

@@ -4,7 +4,7 @@ use Rattle.std.specs.Prelude.{Option, Some, None, IfSome}
 use Rattle.std.proofs.lemmas.List.{append-nil}
 use Rattle.std.specs.Io.KnownBytes.{Consumes, IsAtEnd}
 use Rattle.flatflash.specs.Input.{Takes}
-use Rattle.flatflash.specs.declared.input.TheConstants.{INPUT_LIMIT}
+use Rattle.flatflash.specs.Input.{input_limit}
 
 -- the bytes that were taken, by their number
 pub takes_from : (a b : Option (List ℕ)) (bytes : List ℕ) (IsSuch : ℕ → Type 0) → Consumes a b bytes → IsSuch (length bytes) → Takes a b IsSuch
@@ -13,8 +13,8 @@ takes_from (Some all) None bytes IsSuch taken such = absurd taken
 takes_from (Some all) (Some rest) bytes IsSuch taken such = (bytes, rest, taken, refl, such)
 
 -- the bytes that were taken up to the end are the input
-pub whole_from : (a b c : Option (List ℕ)) (bytes : List ℕ) → Consumes a b bytes → IsAtEnd b → Consumes b c [] → length bytes ≤ INPUT_LIMIT
-    → IfSome a (λ input. (c ≡ Some []) × (length input ≤ INPUT_LIMIT) × (input ≡ bytes))
+pub whole_from : (a b c : Option (List ℕ)) (bytes : List ℕ) → Consumes a b bytes → IsAtEnd b → Consumes b c [] → length bytes ≤ input_limit
+    → IfSome a (λ input. (c ≡ Some []) × (length input ≤ input_limit) × (input ≡ bytes))
 whole_from None b c bytes taken ends none small = tt
 whole_from (Some all) None c bytes taken ends none small = absurd taken
 whole_from (Some all) (Some rest) None bytes taken ends none small = absurd none

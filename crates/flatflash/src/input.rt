@@ -1,60 +1,72 @@
-ghost use Rattle.std.specs.Prelude.{◌≡◌, ◌≤◌, ◌<◌, ◌+◌, ◌++◌, length, take, vec_len, IfOk, IfErr, OnOk, OnErr, true, ◌*◌};
+// The bytes of an input, and the part of them that is its trace.
+ghost use Rattle.std.specs.Prelude.{◌≡◌, ◌≤◌, ◌+◌, [], vec_capacity, vec_len, IfOk, IfErr};
 ghost use Rattle.std.specs.Option.{option_copied};
-ghost use Rattle.std.specs.Io.KnownBytes.{Consumes, IsAtEnd, Keeps};
-ghost use Rattle.ff_base.specs.Count.{Rose};
-ghost use Rattle.flatflash.specs.Input.{ReadsWhole, reads_of, trace_part};
-ghost use Rattle.flatflash.specs.Ending.{IsRefused};
+ghost use Rattle.flatflash.specs.Input.{IsInputCause, ReadsWhole, chunk_size, input_limit, source_change, trace_part};
+ghost use Rattle.flatflash.specs.declared.input.BadInput.TheVariants as bad_input;
 
-use crate::refusal::Refusal;
-use ff_io::Source;
+use ff_base::append_reserved;
+use ff_io::{Failed, Source};
 use std::alloc::Global;
 
 /// The most bytes of an input.
 pub const INPUT_LIMIT: usize = 1 << 26;
 
+/// The most bytes of one read.
 const CHUNK_BYTES: usize = 1 << 16;
 
-/// Reads the whole input. Each read but the last gives a byte, so there are at most `INPUT_LIMIT + 1` of them.
-pub fn read_all<S: Source>(alloc: Global, source: &mut S) -> Result<Vec<u8>, Refusal>
-    ensures ok { IfOk result (λ bytes. ReadsWhole (reads_of S.left S.faults source.old source.new) (λ input. input ≡ bytes.items)) }
-    ensures err { IfErr result (IsRefused true (reads_of S.left S.faults source.old source.new)) }
+/// Why an input can't be had.
+#[derive(Clone, Copy, Debug, PartialEq, Eq)]
+pub enum BadInput {
+    NoMemory,
+    /// A read of the source failed.
+    Fault,
+    /// There are more than `INPUT_LIMIT` bytes.
+    TooLong,
+}
+
+/// Reads the whole input. Each read but the last gives a byte, so there are at most
+/// `INPUT_LIMIT + 1` of them. Room for all is reserved once, and takes memory as it is used.
+pub fn read_all<S: Source>(alloc: Global, source: &mut S) -> Result<Vec<u8>, BadInput>
+    ensures ok { IfOk result (λ bytes.
+        ReadsWhole (source_change S.left S.faults source.old source.new)
+        (λ input. input ≡ bytes.items)) }
+    ensures err { IfErr result
+        (IsInputCause (source_change S.left S.faults source.old source.new)) }
 {
     let mut chunk = make_chunk(alloc)?;
-    let mut bytes = Vec::new(alloc);
+    let mut bytes = make_room(alloc)?;
     for _ in 0..INPUT_LIMIT + 1 {
-        let count = match read_some(source, &mut chunk) {
+        let count = match source.read(&mut chunk) {
             Ok(0) => return Ok(bytes),
             Ok(count) => count,
-            Err(refusal) => return Err(refusal),
+            Err(Failed) => return Err(BadInput::Fault),
         };
-        bytes.extend_from_slice(&chunk[..count])?;
+        append_reserved(&mut bytes, &chunk[..count]);
         if bytes.len() > INPUT_LIMIT {
-            return Err(Refusal::TooLong);
+            return Err(BadInput::TooLong);
         }
     }
     unreachable!()
 }
 
-fn make_chunk(alloc: Global) -> Result<Vec<u8>, Refusal>
-    ensures ok { IfOk result (λ chunk. vec_len chunk ≡ CHUNK_BYTES) }
-    ensures err { IfErr result (λ e. e ≡ Refusal.NoMemory) }
+fn make_chunk(alloc: Global) -> Result<Vec<u8>, BadInput>
+    ensures ok { IfOk result (λ chunk. vec_len chunk ≡ chunk_size) }
+    ensures err { IfErr result (λ why. why ≡ bad_input.NoMemory) }
 {
-    Ok(vec![in alloc; 0; CHUNK_BYTES]?)
+    match vec![in alloc; 0; CHUNK_BYTES] {
+        Ok(chunk) => Ok(chunk),
+        Err(_) => Err(BadInput::NoMemory),
+    }
 }
 
-// One read.
-fn read_some<S: Source>(source: &mut S, into: &mut [u8]) -> Result<usize, Refusal>
-    ensures bound { IfOk result (λ n. n ≤ length into.old) }
-    ensures taken { IfOk result (λ n. Consumes (S.left source.old) (S.left source.new) (take n into.new)) }
-    ensures end { IfOk result (λ n. n ≡ 0 → 0 < length into.old → IsAtEnd (S.left source.old)) }
-    ensures same_faults { OnOk result (S.faults source.new ≡ S.faults source.old) }
-    ensures error { IfErr result (λ e. e ≡ Refusal.ReadFault) }
-    ensures kept { OnErr result (Keeps (S.left source.old) (S.left source.new)) }
-    ensures cause { OnErr result (Rose (S.faults source.old) (S.faults source.new)) }
+fn make_room(alloc: Global) -> Result<Vec<u8>, BadInput>
+    ensures empty { IfOk result (λ bytes. bytes.items ≡ []) }
+    ensures room { IfOk result (λ bytes. input_limit + chunk_size ≤ vec_capacity bytes) }
+    ensures err { IfErr result (λ why. why ≡ bad_input.NoMemory) }
 {
-    match source.read(into) {
-        Ok(count) => Ok(count),
-        Err(_) => Err(Refusal::ReadFault),
+    match Vec::with_capacity(alloc, INPUT_LIMIT + CHUNK_BYTES) {
+        Ok(bytes) => Ok(bytes),
+        Err(_) => Err(BadInput::NoMemory),
     }
 }
 

@@ -1,10 +1,13 @@
-//! FlatFlash: a unified memory and storage hierarchy over a simulated flash, whose answers are exact.
+//! FlatFlash: a unified memory and storage hierarchy over a simulated flash, whose answers are
+//! exact.
 #![tactic(auto)]
 
 mod input;
+mod outcome;
 mod refusal;
 mod run;
 mod schedule;
+mod session;
 mod tell;
 #[cfg(test)]
 mod tests;
@@ -16,19 +19,20 @@ use std::env;
 use std::io::ErrorKind;
 use std::process::ExitCode;
 
-/// The status where memory for the words is refused.
-const NO_MEMORY: u8 = 6;
-
 fn main(rt: HostRuntime) -> ExitCode {
-    let mut source = HostSource::new(rt.stdin());
-    let mut sink = HostSink::new(rt.stdout());
-    match words_of(&rt) {
-        Ok(words) => {
-            let outcome = schedule::schedule(rt.alloc(), &words, &mut source, &mut sink);
-            ExitCode::from(outcome.status)
-        }
-        Err(NoMemory) => ExitCode::from(NO_MEMORY),
+    match status(&rt) {
+        Ok(status) => ExitCode::from(status),
+        Err(NoMemory) => ExitCode::from(outcome::NO_MEMORY),
     }
+}
+
+// Runs the command over the standard streams.
+fn status(rt: &HostRuntime) -> Result<u8, NoMemory> {
+    let words = words_of(rt)?;
+    let mut source = HostSource::new(rt.alloc(), rt.stdin())?;
+    let mut sink = HostSink::new(rt.alloc(), rt.stdout())?;
+    let outcome = schedule::schedule(rt.alloc(), &words, &mut source, &mut sink);
+    Ok(outcome::status_after(sink.flush(), outcome.status))
 }
 
 // The words that the program was started with, and none where they aren't text.

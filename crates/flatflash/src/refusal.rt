@@ -1,8 +1,9 @@
+// Why a run gives no session.
 ghost use Rattle.std.specs.Prelude.{◌≡◌};
 ghost use Rattle.flatflash.specs.declared.refusal.Refusal.TheVariants as refusals;
 
 use ff_base::NoMemory;
-use std::alloc::{AllocError, AllocFailed};
+use std::alloc::AllocFailed;
 
 /// Why a run gives no session.
 #[derive(Clone, Copy, Debug, PartialEq, Eq)]
@@ -25,14 +26,6 @@ impl From<NoMemory> for Refusal {
     ghost from_gives = { λ _ refusal. refusal ≡ refusals.NoMemory };
 
     fn from(_: NoMemory) -> Self {
-        Refusal::NoMemory
-    }
-}
-
-impl From<AllocError> for Refusal {
-    ghost from_gives = { λ _ refusal. refusal ≡ refusals.NoMemory };
-
-    fn from(_: AllocError) -> Self {
         Refusal::NoMemory
     }
 }

@@ -1,4 +1,4 @@
-use Rattle.std.proofs.Common.{◌≡◌, ◌+◌, ap, ◌∙◌, arith}
+use Rattle.std.proofs.Common.{◌+◌, ap, ◌∙◌, arith}
 use Rattle.ff_flash.proofs.SimCells.{erases_more, state_is}
 use Rattle.ff_flash.specs.Cells.{cell_after, erase}
 use Rattle.ff_flash.specs.PageState.{cell_of}

@@ -9,9 +9,12 @@ returns c =
     let set = c.flexible.ensures in
     let headers = c.has_headers.ensures in
     record {
-      trim = rw (set, headers) at made.trim ∙ c.new.ensures.trim;
-      ready = inr (inr (rw (set, headers) at made.has_headers, made.headers));
-      config = rw (set, headers) at made.config ∙ c.new.ensures.config;
+      settings = record {
+        trim = rw (set, headers) at made.trim ∙ c.new.ensures.trim;
+        ready = inr (inr (rw (set, headers) at made.has_headers, made.headers));
+        config = rw (set, headers) at made.config ∙ c.new.ensures.config;
+        flexible = rw set at made.flexible;
+      };
       rest = strip_bom c.args.bytes.now;
       source = made.source;
       reached = (sym made.state, refl);

@@ -1,40 +1,53 @@
-use Rattle.std.proofs.Common.{◌∙◌, length-append, inl, inr, sym, arith}
-use Rattle.csv.specs.Records.{fields_of}
-use Rattle.ff_trace.proofs.RowsRead.{bad_header, is_good-beyond, is_good-none, no_header, rows-bad, rows-end, rows-more, rows-start}
+use Rattle.std.proofs.Common.{◌≡◌, ◌∙◌, ◌∷◌, [], true, List, Option, Some, length-append, inl, inr, sym, ap, arith}
+use Rattle.ff_trace.specs.Tally.{fits, tally_of, with_row}
+use Rattle.ff_trace.specs.Trace.{if_fits}
+use Rattle.ff_trace.specs.declared.row.Row.{Row}
+use Rattle.ff_trace.specs.declared.tally.Limits.{Limits}
+use Rattle.ff_trace.specs.declared.tally.Tally.{Tally}
+use Rattle.ff_trace.proofs.RowsRead.{bad_header, fits-within, if_fits-some, no_header, rows-bad, rows-end, rows-more, rows-start, tally_of-more, tally_of-rows}
 use Rattle.ff_trace.proofs.trace_rows.trace.Goals as goal
+
+-- a row that was found behind so many rows is one, and fits
+found_row : (limits : Limits) (tally : Tally) (rows : List Row) (found : Option Row) (row : Row) → tally ≡ tally_of rows
+    → Some row ≡ if_fits limits tally found → (found ≡ Some row) × (fits limits (tally_of rows) row ≡ true)
+found_row limits tally rows found row same is = if_fits-some limits (tally_of rows) found row (rw same at is)
 
 pub returns-then-not-branch-clause-cause : goal.returns-then-not-branch-clause-cause
 returns-then-not-branch-clause-cause c =
-    inr (no_header _ _ _ _ _ c.reader-reader.ensures c.in_ok-read.ensures.reads c.if-not-branch.true)
+    inr (inr (no_header _ _ _ _ _ c.reader-reader.ensures c.in_ok-read.ensures.reads c.if-not-branch.true))
 
 pub returns-then-not-is_header-clause-cause : goal.returns-then-not-is_header-clause-cause
 returns-then-not-is_header-clause-cause c =
-    inl (bad_header _ _ _ _ _ c.reader-reader.ensures c.in_ok-read.ensures.reads c.if-not-branch.false (sym c.is_header.ensures ∙ c.if-not-is_header.true))
+    inr (inl (bad_header _ _ _ _ _ c.reader-reader.ensures c.in_ok-read.ensures.reads c.if-not-branch.false (sym c.is_header.ensures ∙ c.if-not-is_header.true)))
 
 pub loop-number-init : goal.loop-number-init
-loop-number-init c = rw c.new-rows.ensures.items record {
-  rows = rows-start _ _ _ _ _ c.reader-reader.ensures c.in_ok-read.ensures.reads c.if-not-branch.false (sym c.is_header.ensures ∙ c.if-not-is_header.false);
+loop-number-init c = rw c.in_ok-rows.ensures.empty record {
+  rows = rows-start _ _ _ _ _ _ c.reader-reader.ensures c.in_ok-read.ensures.reads c.if-not-branch.false (sym c.is_header.ensures ∙ c.if-not-is_header.false);
+  tally = c.new-tally.ensures;
   count = omega arith;
+  few = omega arith;
 }
 
 pub returns-then-not-branch-2-clause-rows : goal.returns-then-not-branch-2-clause-rows
 returns-then-not-branch-2-clause-rows c =
-    rows-end _ _ _ _ _ _ c.loop-number.invariant.rows c.in_ok-read-2.ensures.reads c.if-not-branch-2.true
+    rows-end _ _ _ _ _ _ _ c.loop-number.invariant.rows c.in_ok-read-2.ensures.reads c.if-not-branch-2.true
 
 pub returns-in_default-clause-cause : goal.returns-in_default-clause-cause
 returns-in_default-clause-cause c =
-    inl (rows-bad _ _ _ _ _ _ _ c.loop-number.invariant.rows c.in_ok-read-2.ensures.reads c.if-not-branch-2.false c.loop-number.invariant.count (is_good-none _ _ _ (sym c.loop-number.invariant.count) (sym c.in_default.ensures)))
+    inl (rows-bad _ _ _ _ _ _ _ _ c.loop-number.invariant.rows c.in_ok-read-2.ensures.reads c.if-not-branch-2.false c.loop-number.invariant.count
+    (rw c.loop-number.invariant.tally at c.in_default.ensures.row))
 
 pub loop-number-preserved : goal.loop-number-preserved
-loop-number-preserved c = rw c.in_ok-push.ensures.pushed record {
-  rows = rows-more _ _ _ _ _ _ _ c.loop-number.invariant.rows c.in_ok-read-2.ensures.reads c.if-not-branch-2.false (sym c.in-Some.ensures) (omega arith);
-  count = rw length-append (omega arith);
-}
-
-pub returns-then-branch-clause-cause : goal.returns-then-branch-clause-cause
-returns-then-branch-clause-cause c =
-    inl (rows-bad _ _ _ _ _ _ _ c.loop-number.invariant.rows c.in_ok-read-3.ensures.reads c.if-branch.true (omega arith) (is_good-beyond 262145 (fields_of c.read-2.new.record) (omega arith)))
-
-pub returns-clause-rows : goal.returns-clause-rows
-returns-clause-rows c =
-    rows-end _ _ _ _ _ _ c.loop-number.invariant.rows c.in_ok-read-3.ensures.reads c.if-branch.false
+loop-number-preserved c =
+    let rows = c.loop-number.rows.items in
+    let so_far = c.loop-number.invariant in
+    let found = found_row _ _ rows _ c.in-Some.row so_far.tally c.in-Some.ensures.row in
+    let within = fits-within _ (tally_of rows) c.in-Some.row found.1 in
+    let count = tally_of-rows rows in
+    let more = length-append rows (c.in-Some.row ∷ []) in
+    rw c.in_ok-push.ensures.pushed record {
+      rows = rows-more _ _ _ _ _ _ _ _ so_far.rows c.in_ok-read-2.ensures.reads c.if-not-branch-2.false found.0 found.1;
+      tally = c.in-Some.ensures.counted ∙ ap (λ (t : Tally). with_row t c.in-Some.row) so_far.tally ∙ sym (tally_of-more rows c.in-Some.row);
+      count = omega arith;
+      few = omega arith;
+    }

@@ -15,8 +15,8 @@ invariant_of-self-in-None c =
     let lies = lies_within c.self.inside.bytes.items c.self.inside.slots.items c.args.place (rw (← c.self.view_is) at c.requires.place) in
     let bare = slot_at c.self.inside.slots.items c.args.place _ _ lies c.index.ensures c.in-None.is in
     let used = c.self.invariant.used in
-    let len = c.append.ensures.len in
-    let capacity = c.append.ensures.capacity in
+    let len = c.append_reserved.ensures.len in
+    let capacity = c.append_reserved.ensures.capacity in
     let room = c.self.invariant.room in
     record {
       slots = slots_after c.self.inside.slots.items c.self.inside.used c.args.place c.self.invariant.slots lies bare;
@@ -36,4 +36,4 @@ pub returns-in-None : goal.returns-in-None
 returns-in-None c =
     let lies = lies_within c.self.inside.bytes.items c.self.inside.slots.items c.args.place (rw (← c.self.view_is) at c.requires.place) in
     let filled = sym c.self.inside.bytes.ok.0 ∙ c.self.invariant.used in
-    rw (c.append.ensures.items, ← c.self.view_is) (appended c.self.inside.bytes.items c.args.page.now c.self.inside.slots.items c.self.inside.used c.args.place c.self.invariant.slots lies filled c.requires.size)
+    rw (c.append_reserved.ensures.items, ← c.self.view_is) (appended c.self.inside.bytes.items c.args.page.now c.self.inside.slots.items c.self.inside.used c.args.place c.self.invariant.slots lies filled c.requires.size)

@@ -2,7 +2,7 @@ use Rattle.std.proofs.Common.{ap, sym, ◌∙◌}
 use Rattle.ff_flash.proofs.OperationCells.{erase_off}
 use Rattle.ff_flash.proofs.SimCells.{erased_cells, full_block}
 use Rattle.ff_flash.proofs.SimOperations.{block_by, operates_as, sound_after, went_block}
-use Rattle.ff_flash.specs.Injected.{answer_of, stop_of}
+use Rattle.ff_flash.specs.Injected.{injected_answer, stop_of}
 use Rattle.ff_flash.proofs.sim_flash.SimFlashFlash.erase.Goals as goal
 
 pub invariant_of-self : goal.invariant_of-self
@@ -32,7 +32,7 @@ returns-clause-counts c =
     rw (← c.self.view_is, c.next-injected.ensures.after)
     (operates_as _ _ _ _ _ _ kept.injector.plan
     (λ off. erase_off c.self.inside.per_block _ c.args.block.0 c.next-injected.result _ (c.next-injected.ensures.injected ∙ off) cells)
-    (ap stop_of (c.answer.ensures ∙ ap answer_of c.next-injected.ensures.injected)))
+    (ap stop_of (c.answer.ensures ∙ ap injected_answer c.next-injected.ensures.injected)))
 
 pub returns-clause-planned : goal.returns-clause-planned
 returns-clause-planned c =

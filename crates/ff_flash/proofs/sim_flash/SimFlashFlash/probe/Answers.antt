@@ -2,7 +2,7 @@ use Rattle.std.proofs.Common.{ap, sym, ◌∙◌, refl, arith, slice_index_or, [
 use Rattle.ff_flash.proofs.SimCells.{cell_at-cells_of, place_within, state_is}
 use Rattle.ff_flash.proofs.SimOperations.{operates_as, stop_of-error}
 use Rattle.ff_flash.specs.Cells.{cell_probe}
-use Rattle.ff_flash.specs.Injected.{answer_of, stop_of}
+use Rattle.ff_flash.specs.Injected.{injected_answer, stop_of}
 use Rattle.ff_flash.specs.PageState.{cell_of}
 use Rattle.ff_flash.proofs.sim_flash.SimFlashFlash.probe.Goals as goal
 
@@ -11,7 +11,7 @@ returns-in_err-answer-clause-counts c =
     let answer = c.in_err-answer.ensures in
     rw (← c.self.view_is, c.next.ensures.after)
     (operates_as _ _ _ _ _ _ c.self.invariant.injector.plan (λ _. refl)
-    (stop_of-error c.from_residual.result c.in_err-answer.field-0.0 c.from_residual.ensures.1 ∙ ap stop_of answer ∙ ap (λ how. stop_of (answer_of how)) c.next.ensures.injected))
+    (stop_of-error c.from_residual.result c.in_err-answer.field-0.0 c.from_residual.ensures.1 ∙ ap stop_of answer ∙ ap (λ how. stop_of (injected_answer how)) c.next.ensures.injected))
 
 pub index-requires : goal.index-requires
 index-requires c =
@@ -34,4 +34,4 @@ pub returns-clause-counts : goal.returns-clause-counts
 returns-clause-counts c =
     let answer = c.in_ok-answer.ensures in
     rw (← c.self.view_is, c.next.ensures.after)
-    (operates_as _ _ _ _ _ _ c.self.invariant.injector.plan (λ _. refl) (ap stop_of answer ∙ ap (λ how. stop_of (answer_of how)) c.next.ensures.injected))
+    (operates_as _ _ _ _ _ _ c.self.invariant.injector.plan (λ _. refl) (ap stop_of answer ∙ ap (λ how. stop_of (injected_answer how)) c.next.ensures.injected))

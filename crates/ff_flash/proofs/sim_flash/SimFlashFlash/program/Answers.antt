@@ -1,8 +1,8 @@
-use Rattle.std.proofs.Common.{ap, sym, ◌∙◌, arith, length, length-set, slice_set}
+use Rattle.std.proofs.Common.{ap, sym, ◌∙◌, arith, length-set, slice_set}
 use Rattle.ff_flash.proofs.SimCells.{full_cells, place_within, programmed_cells}
 use Rattle.ff_flash.proofs.SimOperations.{cells_off, operates_as, page_by, sound_after, went_page}
 use Rattle.ff_flash.specs.Cells.{program}
-use Rattle.ff_flash.specs.Injected.{answer_of, stop_of}
+use Rattle.ff_flash.specs.Injected.{injected_answer, stop_of}
 use Rattle.ff_flash.proofs.sim_flash.SimFlashFlash.program.Goals as goal
 
 pub put-requires-clause-place : goal.put-requires-clause-place
@@ -53,7 +53,7 @@ returns-clause-counts c =
     rw (← c.self.view_is, c.next-injected.ensures.after)
     (operates_as _ _ _ _ _ _ kept.injector.plan
     (λ off. cells ∙ cells_off (program c.args.from.now c.args.spare) _ _ c.args.at.0 (c.next-injected.ensures.injected ∙ off))
-    (ap stop_of (c.answer.ensures ∙ ap answer_of c.next-injected.ensures.injected)))
+    (ap stop_of (c.answer.ensures ∙ ap injected_answer c.next-injected.ensures.injected)))
 
 pub returns-clause-planned : goal.returns-clause-planned
 returns-clause-planned c =

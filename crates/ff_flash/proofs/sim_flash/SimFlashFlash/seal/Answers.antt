@@ -2,7 +2,7 @@ use Rattle.std.proofs.Common.{ap, sym, ◌∙◌, arith, length-set}
 use Rattle.ff_flash.proofs.SimCells.{changed_cells, full_cells, place_within}
 use Rattle.ff_flash.proofs.SimOperations.{cells_off, operates_as, page_by, sound_after, went_page}
 use Rattle.ff_flash.specs.Cells.{seal}
-use Rattle.ff_flash.specs.Injected.{answer_of, stop_of}
+use Rattle.ff_flash.specs.Injected.{injected_answer, stop_of}
 use Rattle.ff_flash.proofs.sim_flash.SimFlashFlash.seal.Goals as goal
 
 pub seal_at-requires : goal.seal_at-requires
@@ -37,7 +37,7 @@ returns-clause-counts c =
     (operates_as _ _ _ _ _ _ kept.injector.plan
     (λ off. changed_cells (λ _. seal) c.next-injected.result _ _ _ c.args.at.0 kept.pages c.seal_at.ensures.changed
     ∙ cells_off seal _ _ c.args.at.0 (c.next-injected.ensures.injected ∙ off))
-    (ap stop_of (c.answer.ensures ∙ ap answer_of c.next-injected.ensures.injected)))
+    (ap stop_of (c.answer.ensures ∙ ap injected_answer c.next-injected.ensures.injected)))
 
 pub returns-clause-planned : goal.returns-clause-planned
 returns-clause-planned c =

@@ -19,8 +19,8 @@ invariant_of-self c =
     let len = ap length released ∙ length-released _ c.self.inside.owners.items ∙ sym c.self.inside.owners.ok.0 in
     record {
       inverse = rw (take_at c.release.new.owners _ c.self.inside.owners.len len, released)
-      (inverse_after c.self.inside.pages.items c.self.inside.owners.items c.args.page record { at = c.args.at; version = c.args.version } c.self.invariant.inverse page_within place_within free);
+          (inverse_after c.self.inside.pages.items c.self.inside.owners.items c.args.page record { at = c.args.at; version = c.args.version } c.self.invariant.inverse page_within place_within free);
       pages = rw length-set c.self.invariant.pages;
       places = rw (take_at c.release.new.owners _ c.self.inside.owners.len len, released)
-      (rw (length-set, length-released) c.self.invariant.places);
+          (rw (length-set, length-released) c.self.invariant.places);
     }

@@ -1,0 +1,6 @@
+mod Fresh
+mod Full
+pub mod Held
+mod Mounted
+mod Put
+pub mod Sets

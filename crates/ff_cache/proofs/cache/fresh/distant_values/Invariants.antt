@@ -1,0 +1,7 @@
+use Rattle.std.proofs.Common.{◌≡◌, ◌<◌, ◌≤◌, ℕ, ◌+◌, ◌*◌, length, take, true, false}
+use Rattle.std.proofs.Math.ListN.{replicate}
+use Rattle.ff_rrip.specs.Ways.{distant_value}
+use Rattle.ff_cache.proofs.cache.fresh.distant_values.Given as goal
+
+abbrev pub invariant-loop : goal.invariant-loop
+invariant-loop l = l.values.items ≡ replicate l.counter (replicate l.ways distant_value)

@@ -1,0 +1,5 @@
+pub mod Cache
+pub mod CacheFields
+pub mod Nv
+pub mod NvFields
+pub mod Slots

@@ -1,0 +1,11 @@
+//! The device's battery-backed cache: sets of ways, each a slot for a page, with a table of re-reference values a set.
+#![tactic(auto)]
+
+mod cache;
+mod slot;
+#[cfg(test)]
+mod tests;
+
+pub use cache::Cache;
+pub use cache::nv::{Nv, NvParts};
+pub use slot::Slot;

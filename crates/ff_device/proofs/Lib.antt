@@ -1,0 +1,9 @@
+pub mod Beginning
+pub mod Drained
+pub mod Edits
+pub mod Holding
+pub mod Laying
+pub mod Lines
+pub mod Touching
+pub mod Pinning
+pub mod Posting

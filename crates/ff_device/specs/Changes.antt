@@ -1,0 +1,18 @@
+-- What is done to the slot of one page.
+use Rattle.std.specs.Prelude.{ℕ, ◌<◌, ◌≡◌, true, length, Some, slice_set}
+use Rattle.ff_cache.specs.Cache.{CacheView}
+use Rattle.ff_cache.specs.Slots.{held, holds, slot_at, slot_written}
+use Rattle.ff_cache.specs.declared.slot.Slot.{Slot}
+use Rattle.ff_lines.specs.declared.post.Post.{Post}
+
+-- the slot of a page was changed in its place
+pub record Changes (page : ℕ) (change : Slot → Slot) (old new : CacheView) : Type 0 where
+  pub place : ℕ
+  pub within : place < length old.slots
+  pub holds : holds (slot_at old.slots place) page ≡ true
+  pub held : held old.slots page ≡ Some (slot_at old.slots place)
+  pub is : new ≡ record old { slots = slice_set old.slots place (change (slot_at old.slots place)) }
+
+-- the slot with a post laid over its page
+abbrev pub slot_after : Post → Slot → Slot
+slot_after post slot = slot_written slot post.line post.from post.bytes

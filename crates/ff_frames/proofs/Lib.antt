@@ -1,0 +1,3 @@
+pub mod FreeCount
+pub mod FreshFrames
+pub mod Unused

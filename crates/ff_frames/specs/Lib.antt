@@ -1,0 +1,4 @@
+pub mod Frame
+pub mod Frames
+pub mod FramesFields
+pub mod UsedFrames

@@ -1,0 +1,10 @@
+pub mod Alike
+pub mod Finishes
+pub mod FlightMoves
+pub mod Flights
+pub mod Landings
+pub mod Lifts
+pub mod Moves
+pub mod Rooms
+pub mod Sites
+pub mod Steps

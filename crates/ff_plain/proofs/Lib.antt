@@ -1,0 +1,2 @@
+mod PlainDevice
+mod PlainPages

@@ -1,0 +1,3 @@
+pub mod Plb
+pub mod PlbFields
+pub mod Slot

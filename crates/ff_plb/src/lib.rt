@@ -1,0 +1,11 @@
+//! The promotion look-aside buffer: the pages in flight between the SSD and the host memory, which of their lines are copied,
+//! and the line that is under way. Its form and its rules are this project's own, after FlatFlash.
+#![tactic(auto)]
+
+mod plb;
+mod slot;
+#[cfg(test)]
+mod tests;
+
+pub use plb::Plb;
+pub use slot::{Flight, Landing, Slot, Way};

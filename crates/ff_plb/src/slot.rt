@@ -1,0 +1,131 @@
+// One page in flight.
+ghost use Rattle.std.specs.Prelude.{◌≡◌, ◌<◌, IfSome, None, Some};
+ghost use Rattle.ff_lines.specs.LineMask.{mask_with};
+ghost use Rattle.ff_plb.specs.Slot.{IsFlying, after_landing, after_lift, after_store, after_turn, landing_of, without_line};
+
+use ff_base::{LINE_BYTES, PageNo};
+use ff_lines::LineMask;
+
+/// Which way a page is copied.
+#[derive(Clone, Copy, Debug, PartialEq, Eq)]
+pub enum Way {
+    /// From the SSD to a frame.
+    Coming,
+    /// From a frame to the SSD.
+    Leaving,
+}
+
+/// A line that is under way: its number in the page, below 64, and the bytes that were lifted.
+#[derive(Clone, Copy, Debug, PartialEq, Eq)]
+pub struct Flight {
+    pub line: u8,
+    pub bytes: [u8; LINE_BYTES],
+}
+
+/// An entry of the buffer: a page in flight, and its frame.
+#[derive(Clone, Copy, Debug, PartialEq, Eq)]
+pub struct Slot {
+    pub page: PageNo,
+    pub frame: u32,
+    pub way: Way,
+    /// The lines that are copied.
+    pub bits: LineMask,
+    pub flight: Option<Flight>,
+}
+
+/// What became of a flight.
+#[derive(Clone, Copy, Debug, PartialEq, Eq)]
+pub enum Landing {
+    Landed(Flight),
+    /// The line was stored to meanwhile.
+    Dropped,
+}
+
+// The flight, unless it is of this line.
+fn other_flight(flight: Option<Flight>, line: u8) -> Option<Flight>
+    ensures { result ≡ without_line line flight }
+{
+    match flight {
+        Some(flight) if flight.line == line => None,
+        other => other,
+    }
+}
+
+impl Slot {
+    pub(crate) fn lifted(self, flight: Flight) -> Slot
+        ensures { result ≡ after_lift flight self }
+    {
+        Slot {
+            flight: Some(flight),
+            ..self
+        }
+    }
+
+    // What becomes of its flight.
+    pub(crate) fn landing(&self) -> Landing
+        requires { IsFlying self.now }
+        ensures { IfSome self.now.flight (λ flight. result ≡ landing_of flight self.now) }
+    {
+        match self.flight {
+            Some(flight) if self.bits.has(flight.line) => Landing::Dropped,
+            Some(flight) => Landing::Landed(flight),
+            None => unreachable!(),
+        }
+    }
+
+    pub(crate) fn landed(self) -> Slot
+        requires { IsFlying self }
+        ensures { result ≡ after_landing self }
+    {
+        match self.flight {
+            Some(flight) => self.without_flight(flight.line),
+            None => unreachable!(),
+        }
+    }
+
+    fn without_flight(self, line: u8) -> Slot
+        requires { line < 64 }
+        ensures { result ≡ record self { bits = mask_with self.bits line; flight = None } }
+    {
+        let mut bits = self.bits;
+        bits.set(line);
+        Slot {
+            bits,
+            flight: None,
+            ..self
+        }
+    }
+
+    pub(crate) fn stored(self, line: u8) -> Slot
+        requires { line < 64 }
+        ensures { result ≡ after_store line self }
+    {
+        match self.way {
+            Way::Coming => self.copied(line),
+            Way::Leaving => Slot {
+                flight: other_flight(self.flight, line),
+                ..self
+            },
+        }
+    }
+
+    fn copied(self, line: u8) -> Slot
+        requires { line < 64 }
+        ensures { result ≡ record self { bits = mask_with self.bits line } }
+    {
+        let mut bits = self.bits;
+        bits.set(line);
+        Slot { bits, ..self }
+    }
+
+    pub(crate) fn turned(self, dirty: LineMask) -> Slot
+        ensures { result ≡ after_turn dirty self }
+    {
+        Slot {
+            way: Way::Leaving,
+            bits: dirty.complement(),
+            flight: None,
+            ..self
+        }
+    }
+}

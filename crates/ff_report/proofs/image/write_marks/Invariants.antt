@@ -1,0 +1,10 @@
+use Rattle.std.proofs.Common.{take, Ok}
+use Rattle.std.specs.Prelude.{flat_map}
+use Rattle.ff_report.specs.ImageText.{mark_text, page_numbers}
+use Rattle.ff_report.specs.Wrote.{Wrote}
+use Rattle.ff_report.proofs.image.write_marks.Given as goal
+
+abbrev pub invariant-loop-page : goal.invariant-loop-page
+invariant-loop-page g l =
+    Wrote (Ok tt) (g.K.Sink.written l.initial.sink) (g.K.Sink.written l.sink)
+    (g.K.Sink.faults l.initial.sink) (g.K.Sink.faults l.sink) (flat_map (mark_text l.image) (take l.page (page_numbers l.image)))
