@@ -1,7 +1,31 @@
 -- What every call's proof needs of a store.
 use Rattle.std.proofs.Common.{
-  ◌≡◌, ◌≢◌, ◌<◌, ◌≤◌, ◌+◌, ◌*◌, ◌/◌, ℕ, Bool, true, false, cond, List, length, get_or, Option, None, Some, inl, inr, refl, sym, ap, subst, ◌∙◌,
-  arith
+  ◌≡◌,
+  ◌≢◌,
+  ◌<◌,
+  ◌≤◌,
+  ◌+◌,
+  ◌*◌,
+  ◌/◌,
+  ℕ,
+  Bool,
+  true,
+  false,
+  cond,
+  List,
+  length,
+  get_or,
+  Option,
+  None,
+  Some,
+  inl,
+  inr,
+  refl,
+  sym,
+  ap,
+  subst,
+  ◌∙◌,
+  arith,
 }
 use Rattle.std.specs.Prelude.{◌&&◌, Err, Ok, Result, is_some, option_map}
 use Rattle.std.proofs.lemmas.Bool.{and_parts}
@@ -27,7 +51,15 @@ use Rattle.ff_gc.specs.declared.counts.Counts.{Counts}
 use Rattle.ff_gc.specs.declared.counts.OperationKind.{OperationKind}
 use Rattle.ff_store.specs.Calls.{Collects, IsCall, SameBytes, SameStore}
 use Rattle.ff_store.specs.PageStore.{
-  IsAlways, IsElsewhere, IsPending, IsRunning, IsStoreSound, IsWaiting, PageStoreView, pages_with, unmapped_of
+  IsAlways,
+  IsElsewhere,
+  IsPending,
+  IsRunning,
+  IsStoreSound,
+  IsWaiting,
+  PageStoreView,
+  pages_with,
+  unmapped_of,
 }
 use Rattle.ff_store.specs.Pages.{page_capacity, mapped_count}
 use Rattle.ff_store.specs.declared.pending.Pending.{Pending}
@@ -106,9 +138,9 @@ count_kept old new keeps =
     count_alike (λ (m : Option Mapping). is_some m) (λ (m : Option Mapping). is_some m) new.places.pages old.places.pages
     None keeps.same.pages
     (λ i.
-        some_version (get_or new.places.pages i None)
-        ∙ ap (λ (v : Option ℕ). is_some v) (keeps.same.versions (record { 0 = i }))
-        ∙ sym (some_version (get_or old.places.pages i None)))
+    some_version (get_or new.places.pages i None)
+    ∙ ap (λ (v : Option ℕ). is_some v) (keeps.same.versions (record { 0 = i }))
+    ∙ sym (some_version (get_or old.places.pages i None)))
 
 -- a step of the collector
 pub collected_sound : (s : PageStoreView) (new : World) (owed : Bool) (step : Result GcStep FlashStop)

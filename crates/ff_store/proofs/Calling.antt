@@ -1,7 +1,30 @@
 -- What each call leaves, by what it made.
 use Rattle.std.proofs.Common.{
-  ◌≡◌, ◌≢◌, ◌<◌, ◌≤◌, ◌+◌, ◌-◌, ◌*◌, ◌/◌, ℕ, Bool, true, false, List, length, Option, None, Some, inl, inr, refl, sym, ap,
-  subst, ◌∙◌, arith
+  ◌≡◌,
+  ◌≢◌,
+  ◌<◌,
+  ◌≤◌,
+  ◌+◌,
+  ◌-◌,
+  ◌*◌,
+  ◌/◌,
+  ℕ,
+  Bool,
+  true,
+  false,
+  List,
+  length,
+  Option,
+  None,
+  Some,
+  inl,
+  inr,
+  refl,
+  sym,
+  ap,
+  subst,
+  ◌∙◌,
+  arith,
 }
 use Rattle.std.specs.Prelude.{◌⊎◌, Result, Ok, Err, IfErr, IfOk}
 use Rattle.std.proofs.lemmas.List.{length-set}
@@ -26,8 +49,21 @@ use Rattle.ff_gc.proofs.Stepping.{steps_kept}
 use Rattle.ff_gc.specs.Collector.{is_busy}
 use Rattle.ff_gc.specs.Running.{IsAt}
 use Rattle.ff_gc.specs.Steps.{
-  Begins, IsStep, IsStepAt, Makes, ProgramsNext, ReadsNext, empty, full, idle, made, mapped, none, operation_of, programs,
-  reads
+  Begins,
+  IsStep,
+  IsStepAt,
+  Makes,
+  ProgramsNext,
+  ReadsNext,
+  empty,
+  full,
+  idle,
+  made,
+  mapped,
+  none,
+  operation_of,
+  programs,
+  reads,
 }
 use Rattle.ff_gc.specs.World.{World, mapped_bytes, page_bytes}
 use Rattle.ff_gc.specs.declared.collector.GcStep.{GcStep}
@@ -42,9 +78,27 @@ use Rattle.ff_store.proofs.Remaining.{idle_of, left_falls}
 use Rattle.ff_store.proofs.Settled.{old_within}
 use Rattle.ff_store.proofs.Settling.{mapped_not_waiting, pending_in, placed_counted}
 use Rattle.ff_store.specs.Calls.{
-  Collects, CollectsFor, CollectsNow, Fetches, Flushes, IsCall, IsPlaced, IsProgrammed, MatchSealed, ProgramsPage, SameBytes, SealsPage,
-  collected, collects_flush, new_mapping, opened_block, pending_at, places_after_seal, programs_flush, table_after_flush,
-  table_after_seal
+  Collects,
+  CollectsFor,
+  CollectsNow,
+  Fetches,
+  Flushes,
+  IsCall,
+  IsPlaced,
+  IsProgrammed,
+  MatchSealed,
+  ProgramsPage,
+  SameBytes,
+  SealsPage,
+  collected,
+  collects_flush,
+  new_mapping,
+  opened_block,
+  pending_at,
+  places_after_seal,
+  programs_flush,
+  table_after_flush,
+  table_after_seal,
 }
 use Rattle.ff_store.specs.Left.{left_of}
 use Rattle.ff_store.specs.PageStore.{IsStoreSound, PageStoreView, spare_of}
@@ -104,7 +158,7 @@ programmed_same s new page bytes result sound on table r =
     let ready = ready_in s sound on in
     let t = target_of s.world r.block r.at.0 table ready r.place in
     let retained = retains_programmed s.world.flash.cells new.world.flash.cells r.at.0 bytes
-      (spare_of (pending_at page r.at s.world.places)) (operation_of result) s.world.places t.blank ready.safe.mapped r.cells in
+    (spare_of (pending_at page r.at s.world.places)) (operation_of result) s.world.places t.blank ready.safe.mapped r.cells in
     record {
       bytes = λ q.
           ap (λ (x : PageStoreView). mapped_bytes new.world.flash.cells (mapping_of x.world.places q)) r.store

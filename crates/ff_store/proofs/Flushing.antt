@@ -1,7 +1,38 @@
 -- A page is programmed.
 use Rattle.std.proofs.Common.{
-  ◌≡◌, ◌≢◌, ◌<◌, ◌≤◌, ◌+◌, ◌*◌, ◌/◌, ◌%◌, ℕ, zero, suc, Bool, true, false, cond, eqb, List, [], ◌∷◌, length, get_or, set,
-  Option, None, Some, inl, inr, refl, sym, ap, subst, ◌∙◌, arith
+  ◌≡◌,
+  ◌≢◌,
+  ◌<◌,
+  ◌≤◌,
+  ◌+◌,
+  ◌*◌,
+  ◌/◌,
+  ◌%◌,
+  ℕ,
+  zero,
+  suc,
+  Bool,
+  true,
+  false,
+  cond,
+  eqb,
+  List,
+  [],
+  ◌∷◌,
+  length,
+  get_or,
+  set,
+  Option,
+  None,
+  Some,
+  inl,
+  inr,
+  refl,
+  sym,
+  ap,
+  subst,
+  ◌∙◌,
+  arith,
 }
 use Rattle.std.specs.Prelude.{◌⊎◌, Result, Ok, Err, count_by, if◌then◌else◌}
 use Rattle.std.proofs.lemmas.Bool.{both_ways, cases_Bool, cases_eq}
@@ -11,7 +42,11 @@ use Rattle.ff_base.specs.declared.numbers.PageNo.{PageNo}
 use Rattle.ff_base.specs.declared.numbers.Ppn.{Ppn}
 use Rattle.ff_base.specs.declared.numbers.TheConstants.{PAGE_BYTES}
 use Rattle.ff_flash.proofs.OperationCells.{
-  program_elsewhere, program_keeps_sealed, program_length, program_seals_none, program_worked
+  program_elsewhere,
+  program_keeps_sealed,
+  program_length,
+  program_seals_none,
+  program_worked,
 }
 use Rattle.ff_flash.proofs.Operated.{was_on}
 use Rattle.ff_flash.proofs.SealedCells.{erased_unsealed}
@@ -262,9 +297,9 @@ flushed_live w cells block at bytes spare result ready t programs =
     let change : BlockEntry → BlockEntry = λ entry. advanced w.table.per_block (opened_block entry) in
     let entry = block_at w.table block in
     let tabled = tabled_programmed per w.table block change w.flash.cells cells w.places at t.in_range
-      (flushed_keeps w.table.per_block entry t.not_waiting) refl t.lies t.rest
-      (program_length w.flash.cells at bytes spare result cells programs)
-      (λ a apart. program_elsewhere w.flash.cells at bytes spare result cells a programs apart) ready.live.tabled in
+    (flushed_keeps w.table.per_block entry t.not_waiting) refl t.lies t.rest
+    (program_length w.flash.cells at bytes spare result cells programs)
+    (λ a apart. program_elsewhere w.flash.cells at bytes spare result cells a programs apart) ready.live.tabled in
     let here : block_at (changed_at w.table block change) block ≡ change entry = block_at-changed_at w.table block change t.in_range in
     let aside : IsAside per block w.table (changed_at w.table block change) w.flash.cells cells w.places (drawn_map w.places) =
     record {
@@ -312,7 +347,7 @@ flushed_safe w flash counts block at bytes spare result stop ready t m programs 
     let rise = m.flash.power.counted ready.on in
     let r = retains_programmed w.flash.cells flash.cells at bytes spare result w.places t.blank ready.safe.mapped programs in
     let safe = safe_retained (length w.table.blocks) w.gc.per_block w.flash.operations flash.operations w.places w.flash.cells
-      flash.cells r (omega arith) ready.safe in
+    flash.cells r (omega arith) ready.safe in
     let drawn = ready.safe.drawn in
     record {
       sealed_cells = safe.sealed_cells;
@@ -418,7 +453,7 @@ flushed_ok s flash counts page bytes block at sound on table in_range room size 
     let blocks = length-changed_at w.table block change in
     let safe = flushed_safe w flash counts block at.0 bytes (spare_of p) (Ok tt) None ready t m programs in
     let free = free_beside w.gc w.table w.flash.cells w.places block w.gc.phase table ready.live.tabled t.not_held
-      t.not_waiting t.other ready.live.phase in
+    t.not_waiting t.other ready.live.phase in
     record {
       fits = flushed_fits w flash counts (flushed_table w block) None sound.fits m.flash
           (program_length w.flash.cells at.0 bytes (spare_of p) (Ok tt) flash.cells programs) blocks refl;

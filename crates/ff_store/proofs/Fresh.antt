@@ -1,7 +1,32 @@
 -- A store over a flash of which every page is erased.
 use Rattle.std.proofs.Common.{
-  ◌≡◌, ◌≢◌, ◌<◌, ◌≤◌, ◌+◌, ◌-◌, ◌*◌, ◌/◌, ◌%◌, ◌^◌, ℕ, true, false, List, length, get_or, Option, None, Some, inl, inr, refl, sym, ap,
-  subst, ◌∙◌, arith
+  ◌≡◌,
+  ◌≢◌,
+  ◌<◌,
+  ◌≤◌,
+  ◌+◌,
+  ◌-◌,
+  ◌*◌,
+  ◌/◌,
+  ◌%◌,
+  ◌^◌,
+  ℕ,
+  true,
+  false,
+  List,
+  length,
+  get_or,
+  Option,
+  None,
+  Some,
+  inl,
+  inr,
+  refl,
+  sym,
+  ap,
+  subst,
+  ◌∙◌,
+  arith,
 }
 use Rattle.std.specs.Prelude.{is_some, replicate}
 use Rattle.std.proofs.lemmas.Bool.{cases_lt}
@@ -52,7 +77,7 @@ new_sound flash g limits blocks per cells =
     let least = limits.blocks.low in
     let most = limits.flash_pages.high in
     let none = count_zero (λ (m : Option Mapping). is_some m) (replicate g.pages None) None
-      (λ i. ap (λ (m : Option Mapping). is_some m) (same_each g.pages i None)) in
+    (λ i. ap (λ (m : Option Mapping). is_some m) (same_each g.pages i None)) in
     let in_none : (b : ℕ) → IsInState (new_table g).blocks Held b → ⊥ = λ b is.
     (let e : Erased ≡ Held = sym (ap (λ (x : BlockEntry). x.state) (new_block g b (let lies = is.in_range in omega arith))) ∙ is.state in cc) in
     let wait_none : (b : ℕ) → IsInState (new_table g).blocks Waiting b → ⊥ = λ b is.
@@ -104,7 +129,7 @@ new_sound flash g limits blocks per cells =
             counted = λ b lies.
                 (let entry = ap (λ (x : BlockEntry). x.mapped) (new_block g b (omega arith)) in
                 let zero_in = count_zero (λ (m : Option Mapping). is_in g.per_block b m) (replicate g.pages None) None
-                  (λ i. ap (λ (m : Option Mapping). is_in g.per_block b m) (same_each g.pages i None)) in
+                (λ i. ap (λ (m : Option Mapping). is_in g.per_block b m) (same_each g.pages i None)) in
                 entry ∙ sym zero_in);
             blank = λ a lies state next. blank a;
           };

@@ -1,7 +1,35 @@
 -- What a mount finds of a store's cells: a covered block, and the newest version of each page.
 use Rattle.std.proofs.Common.{
-  ◌≡◌, ◌≢◌, ◌<◌, ◌≤◌, ◌+◌, ◌/◌, ℕ, zero, suc, Bool, true, false, cond, eqb, ltb, List, [], ◌∷◌, length, Option, None, Some, inl,
-  inr, refl, sym, ap, subst, ◌∙◌, arith
+  ◌≡◌,
+  ◌≢◌,
+  ◌<◌,
+  ◌≤◌,
+  ◌+◌,
+  ◌/◌,
+  ℕ,
+  zero,
+  suc,
+  Bool,
+  true,
+  false,
+  cond,
+  eqb,
+  ltb,
+  List,
+  [],
+  ◌∷◌,
+  length,
+  Option,
+  None,
+  Some,
+  inl,
+  inr,
+  refl,
+  sym,
+  ap,
+  subst,
+  ◌∙◌,
+  arith,
 }
 use Rattle.std.specs.Prelude.{◌⊎◌, is_some}
 use Rattle.std.proofs.lemmas.Bool.{cases_Bool, cases_eq, eq-eqb, eqb-true, ltb-false, ltb-true}
@@ -32,14 +60,14 @@ covered s always = record {
   in_range = always.safe.spare.in_range;
   covered = λ a x spare is lies. elim (always.safe.mapped.known a x spare is) [
     | inl newest ↦ record {
-        at = newest.mapping.at.0;
-        bytes = cell_bytes (cell_at s.world.flash.cells newest.mapping.at.0);
-        other = record { page = spare.page; version = newest.mapping.version };
-        is = always.safe.mapped.placed spare.page newest.mapping newest.is;
-        elsewhere = always.safe.spare.unmapped spare.page newest.mapping newest.is;
-        page = refl;
-        newer = newest.newer;
-      }
+      at = newest.mapping.at.0;
+      bytes = cell_bytes (cell_at s.world.flash.cells newest.mapping.at.0);
+      other = record { page = spare.page; version = newest.mapping.version };
+      is = always.safe.mapped.placed spare.page newest.mapping newest.is;
+      elsewhere = always.safe.spare.unmapped spare.page newest.mapping newest.is;
+      page = refl;
+      newer = newest.newer;
+    }
     | inr unknown ↦
         absurd (unknown_elsewhere s.waits s.world.gc.per_block always.safe.spare.block a spare always.elsewhere unknown lies)
   ];

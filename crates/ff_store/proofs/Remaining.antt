@@ -1,7 +1,30 @@
 -- Every collection step of a flush leaves fewer of them.
 use Rattle.std.proofs.Common.{
-  ◌≡◌, ◌≢◌, ◌<◌, ◌≤◌, ◌+◌, ◌-◌, ◌*◌, ◌/◌, ◌%◌, ℕ, Bool, true, false, cond, eqb, List, length, inl, inr, refl, sym, ap, subst,
-  ◌∙◌, arith
+  ◌≡◌,
+  ◌≢◌,
+  ◌<◌,
+  ◌≤◌,
+  ◌+◌,
+  ◌-◌,
+  ◌*◌,
+  ◌/◌,
+  ◌%◌,
+  ℕ,
+  Bool,
+  true,
+  false,
+  cond,
+  eqb,
+  List,
+  length,
+  inl,
+  inr,
+  refl,
+  sym,
+  ap,
+  subst,
+  ◌∙◌,
+  arith,
 }
 use Rattle.std.specs.Prelude.{◌⊎◌, Result, Ok, not, if◌then◌else◌}
 use Rattle.std.proofs.lemmas.Bool.{both_ways, cases_Bool, cases_lt, eq-eqb, eqb-true, ne_eqb}
@@ -175,7 +198,7 @@ pub left_falls : (old new : World) (step : GcStep) → IsTableSound old.table �
 left_falls old new step sound ready why other r per = elim (cases_Bool (is_busy old.gc.phase)) [
   | inl busy ↦ busy_falls old new step sound ready busy other r per
   | inr not_busy ↦ elim why [
-      | inl busy ↦ absurd (both_ways (is_busy old.gc.phase) not_busy busy)
-      | inr nowhere ↦ idle_falls old new step sound ready (idle_of old.gc.phase not_busy) nowhere other r per
-    ]
+    | inl busy ↦ absurd (both_ways (is_busy old.gc.phase) not_busy busy)
+    | inr nowhere ↦ idle_falls old new step sound ready (idle_of old.gc.phase not_busy) nowhere other r per
+  ]
 ]

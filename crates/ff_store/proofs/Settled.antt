@@ -1,7 +1,35 @@
 -- The store after a seal.
 use Rattle.std.proofs.Common.{
-  ◌≡◌, ◌≢◌, ◌<◌, ◌≤◌, ◌+◌, ◌-◌, ◌*◌, ◌/◌, ◌%◌, ℕ, Bool, true, false, cond, eqb, List, length, get_or, set, Option, None,
-  Some, inl, inr, refl, sym, ap, subst, ◌∙◌, arith
+  ◌≡◌,
+  ◌≢◌,
+  ◌<◌,
+  ◌≤◌,
+  ◌+◌,
+  ◌-◌,
+  ◌*◌,
+  ◌/◌,
+  ◌%◌,
+  ℕ,
+  Bool,
+  true,
+  false,
+  cond,
+  eqb,
+  List,
+  length,
+  get_or,
+  set,
+  Option,
+  None,
+  Some,
+  inl,
+  inr,
+  refl,
+  sym,
+  ap,
+  subst,
+  ◌∙◌,
+  arith,
 }
 use Rattle.std.specs.Prelude.{◌⊎◌, Result, Ok, Err, is_some, if◌then◌else◌}
 use Rattle.std.proofs.lemmas.Bool.{cases_Bool, cases_eq, eq-eqb, ne_eqb}
@@ -39,14 +67,33 @@ use Rattle.ff_gc.specs.declared.counts.Counts.{Counts}
 use Rattle.ff_gc.specs.declared.counts.OperationKind.TheVariants.{Seal}
 use Rattle.ff_gc.specs.declared.phase.Phase.TheVariants.{Idle}
 use Rattle.ff_store.proofs.Settling.{
-  IsCounted, counted_there, mapped_all, mapped_block, mapped_count_with, mapped_in_with, mapped_not_waiting, new_or_old, one_if, pending_in,
-  placed_counted, placed_mapped, sealed_all, sealed_cells_of, usable_not
+  IsCounted,
+  counted_there,
+  mapped_all,
+  mapped_block,
+  mapped_count_with,
+  mapped_in_with,
+  mapped_not_waiting,
+  new_or_old,
+  one_if,
+  pending_in,
+  placed_counted,
+  placed_mapped,
+  sealed_all,
+  sealed_cells_of,
+  usable_not,
 }
 use Rattle.ff_store.proofs.Around.{IsAside, at_aside}
 use Rattle.ff_store.proofs.Basics.{counted_after, elsewhere_none, fits_operated, ready_in, sealed_later, waiting_some, with_flash}
 use Rattle.ff_store.specs.Calls.{dropped, new_mapping, placed_table}
 use Rattle.ff_store.specs.PageStore.{
-  IsElsewhere, IsPending, IsStoreSound, IsWaiting, PageStoreView, spare_of, unmapped_of
+  IsElsewhere,
+  IsPending,
+  IsStoreSound,
+  IsWaiting,
+  PageStoreView,
+  spare_of,
+  unmapped_of,
 }
 use Rattle.ff_store.specs.Pages.{page_capacity, is_mapped, mapped_count, mapped_with}
 use Rattle.ff_store.specs.declared.pending.Pending.{Pending}
@@ -103,7 +150,7 @@ settled_live s p w sound on page =
     let counted = placed_counted per table old block (old_within s p sound on) w.block in
     let unsealed = closed_unsealed (cell_at cells p.at.0) w.bytes (spare_of p) w.cell in
     let tabled = tabled_sealed per table cells places p.at.0 w.bytes (spare_of p) (sealed w.bytes (spare_of p)) w.cell
-      (length-set cells p.at.0 (sealed w.bytes (spare_of p))) live.tabled in
+    (length-set cells p.at.0 (sealed w.bytes (spare_of p))) live.tabled in
     let more = λ (b : ℕ). placed_mapped per table old block b (old_within s p sound on) (old_counted s p sound on) w.block in
     let size = counted.size in
     let aside : IsAside per block table (settled_table s p) cells (sealed_cells_of s p w.bytes) places (settled_map s p) =
@@ -137,13 +184,13 @@ settled_live s p w sound on page =
       phase = at_aside s.world.gc block table (settled_table s p) cells (sealed_cells_of s p w.bytes) places (settled_map s p)
           s.world.gc.phase aside w.apart
           (λ idle.
-              (let at_idle = subst (λ q. IsAt s.world.gc cells table places q) idle live.phase in record {
-                block = at_idle.spare.block;
-                is = record {
-                  in_range = (let within = at_idle.spare.is.in_range in omega arith);
-                  state = counted.state at_idle.spare.block ∙ at_idle.spare.is.state;
-                };
-              }))
+          (let at_idle = subst (λ q. IsAt s.world.gc cells table places q) idle live.phase in record {
+            block = at_idle.spare.block;
+            is = record {
+              in_range = (let within = at_idle.spare.is.in_range in omega arith);
+              state = counted.state at_idle.spare.block ∙ at_idle.spare.is.state;
+            };
+          }))
           live.phase;
     }
 
@@ -170,7 +217,7 @@ settled_ok s flash counts p sound on waits m seals =
     let cells : flash.cells ≡ sealed_cells_of s p w.bytes =
     seal_worked world.flash.cells p.at.0 w.bytes (spare_of p) flash.cells w.cell seals in
     let counted = placed_counted world.gc.per_block world.table (mapping_of world.places p.page) (p.at.0 / world.gc.per_block)
-      (old_within s p sound on) w.block in
+    (old_within s p sound on) w.block in
     let size = counted.size in
     let pages = length-set world.places.pages p.page.0 (Some (new_mapping p)) in
     let rise = m.flash.power.counted on in

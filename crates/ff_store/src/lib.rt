@@ -5,8 +5,6 @@
 mod pending;
 mod store;
 mod writing;
-#[cfg(test)]
-mod tests;
 
 pub use pending::Pending;
 pub use store::{FlushStep, PageStore};
