@@ -1,41 +1,7 @@
 -- A page is programmed.
-use Rattle.std.proofs.Common.{
-  ◌≡◌,
-  ◌≢◌,
-  ◌<◌,
-  ◌≤◌,
-  ◌+◌,
-  ◌*◌,
-  ◌/◌,
-  ◌%◌,
-  ℕ,
-  zero,
-  suc,
-  Bool,
-  true,
-  false,
-  cond,
-  eqb,
-  List,
-  [],
-  ◌∷◌,
-  length,
-  get_or,
-  set,
-  Option,
-  None,
-  Some,
-  inl,
-  inr,
-  refl,
-  sym,
-  ap,
-  subst,
-  ◌∙◌,
-  arith,
-}
-use Rattle.std.specs.Prelude.{◌⊎◌, Result, Ok, Err, count_by, if◌then◌else◌}
-use Rattle.std.proofs.lemmas.Bool.{both_ways, cases_Bool, cases_eq}
+use Rattle.std.proofs.Common.{◌≡◌, ◌≢◌, ◌<◌, ◌≤◌, ◌+◌, ◌*◌, ◌/◌, ◌%◌, ℕ, suc, Bool, true, cond, eqb, List, [], ◌∷◌, length, get_or, set, Option, None, Some, inl, inr, refl, sym, ap, subst, ◌∙◌, arith}
+use Rattle.std.specs.Prelude.{◌⊎◌, Result, Ok, Err, count_by}
+use Rattle.std.proofs.lemmas.Bool.{both_ways, cases_Bool}
 use Rattle.std.proofs.lemmas.List.{get_or-set_other, get_or-set_same, length-set}
 use Rattle.std.proofs.lemmas.Option.{none-some, same_Some}
 use Rattle.ff_base.specs.declared.numbers.PageNo.{PageNo}
@@ -48,9 +14,8 @@ use Rattle.ff_flash.proofs.OperationCells.{
   program_seals_none,
   program_worked,
 }
-use Rattle.ff_flash.proofs.Operated.{was_on}
 use Rattle.ff_flash.proofs.SealedCells.{erased_unsealed}
-use Rattle.ff_flash.specs.Cells.{Cell, Programs, cell_at, closed, erased}
+use Rattle.ff_flash.specs.Cells.{Cell, Programs, cell_at, erased}
 use Rattle.ff_flash.specs.FlashState.{FlashState, Operates}
 use Rattle.ff_flash.specs.declared.flash.FlashStop.{FlashStop}
 use Rattle.ff_flash.specs.declared.flash.FlashStop.TheVariants.{Failed, Off}
@@ -58,25 +23,23 @@ use Rattle.ff_flash.specs.declared.spare.Spare.{Spare}
 use Rattle.ff_space.proofs.Changed.{block_at-changed_at, block_at-changed_at_other, length-changed_at}
 use Rattle.ff_space.specs.Blocks.{StateFits, advanced, erased_block, is_erased, raised_state, waiting}
 use Rattle.ff_space.specs.BlockTable.{IsInState, IsTableSound, TableView, block_at, changed_at, erased_count}
-use Rattle.ff_space.specs.Choices.{IsBlockToTake, IsLeast}
 use Rattle.ff_space.specs.declared.block.BlockEntry.{BlockEntry}
 use Rattle.ff_space.specs.declared.block.BlockState.{BlockState}
 use Rattle.ff_space.specs.declared.block.BlockState.TheVariants.{Erased, Full, Held, Open, Waiting}
-use Rattle.ff_map.specs.PageMap.{MapView, drawn_map, mapping_of}
-use Rattle.ff_map.specs.declared.places.Mapping.{Mapping}
+use Rattle.ff_map.specs.PageMap.{MapView, drawn_map}
 use Rattle.ff_gc.proofs.Begun.{erased_next}
-use Rattle.ff_gc.proofs.Counting.{count_hit, count_miss, count_set}
+use Rattle.ff_gc.proofs.Counting.{count_miss, count_set}
 use Rattle.ff_gc.proofs.Emptied.{no_page_of}
 use Rattle.ff_gc.proofs.Keeping.{not_off}
 use Rattle.ff_gc.proofs.Numbers.{block_of_place, place_within, rest_of_place}
 use Rattle.ff_gc.proofs.PageCopies.{write_place_blank}
-use Rattle.ff_gc.proofs.Retaining.{Retains, bytes_retained, retains_programmed, safe_retained}
+use Rattle.ff_gc.proofs.Retaining.{retains_programmed, safe_retained}
 use Rattle.ff_gc.proofs.Tables.{KeepsPages, state_after, tabled_programmed}
-use Rattle.ff_gc.specs.Cells.{AreMapped, HasNoPage, IsSafe}
+use Rattle.ff_gc.specs.Cells.{HasNoPage, IsSafe}
 use Rattle.ff_gc.specs.Collector.{CollectorView}
-use Rattle.ff_gc.specs.Running.{HasBlock, IsAt, IsLive, IsTabled, mapped_in}
-use Rattle.ff_gc.specs.Steps.{Makes, operation_of}
-use Rattle.ff_gc.specs.World.{Fits, IsReady, World, mapped_bytes}
+use Rattle.ff_gc.specs.Running.{IsAt, IsLive, IsTabled}
+use Rattle.ff_gc.specs.Steps.{Makes}
+use Rattle.ff_gc.specs.World.{Fits, IsReady, World}
 use Rattle.ff_gc.specs.declared.counts.Counts.{Counts}
 use Rattle.ff_gc.specs.declared.counts.OperationKind.TheVariants.{Program}
 use Rattle.ff_gc.specs.declared.phase.Phase.{Phase}

@@ -1,33 +1,5 @@
 -- A store over a flash of which every page is erased.
-use Rattle.std.proofs.Common.{
-  ◌≡◌,
-  ◌≢◌,
-  ◌<◌,
-  ◌≤◌,
-  ◌+◌,
-  ◌-◌,
-  ◌*◌,
-  ◌/◌,
-  ◌%◌,
-  ◌^◌,
-  ℕ,
-  true,
-  false,
-  List,
-  length,
-  get_or,
-  Option,
-  None,
-  Some,
-  inl,
-  inr,
-  refl,
-  sym,
-  ap,
-  subst,
-  ◌∙◌,
-  arith,
-}
+use Rattle.std.proofs.Common.{◌≡◌, ◌<◌, ◌*◌, ℕ, List, length, get_or, Option, None, Some, inl, inr, refl, sym, ap, ◌∙◌, arith}
 use Rattle.std.specs.Prelude.{is_some, replicate}
 use Rattle.std.proofs.lemmas.Bool.{cases_lt}
 use Rattle.std.proofs.lemmas.List.{get_or-replicate, get_or_past, length-replicate}
@@ -40,10 +12,10 @@ use Rattle.ff_flash.specs.Cells.{Cell, cell_at, erased, sealed}
 use Rattle.ff_flash.specs.FlashState.{FlashState}
 use Rattle.ff_flash.specs.declared.spare.Spare.{Spare}
 use Rattle.ff_space.specs.Blocks.{erased_block, waiting}
-use Rattle.ff_space.specs.BlockTable.{IsInState, TableView, block_at, new_table}
+use Rattle.ff_space.specs.BlockTable.{IsInState, block_at, new_table}
 use Rattle.ff_space.specs.declared.block.BlockEntry.{BlockEntry}
 use Rattle.ff_space.specs.declared.block.BlockState.TheVariants.{Erased, Held, Waiting}
-use Rattle.ff_map.specs.PageMap.{MapView, empty_map, mapping_of}
+use Rattle.ff_map.specs.PageMap.{empty_map, mapping_of}
 use Rattle.ff_map.specs.declared.places.Mapping.{Mapping}
 use Rattle.ff_gc.proofs.Counting.{count_zero}
 use Rattle.ff_gc.specs.Running.{is_in}

@@ -1,46 +1,12 @@
 -- Where no collection runs, no block has a page to program and the mapped pages are within the capacity, a block can be
 -- collected.
-use Rattle.std.proofs.Common.{
-  ◌≡◌,
-  ◌≢◌,
-  ◌<◌,
-  ◌≤◌,
-  ◌+◌,
-  ◌-◌,
-  ◌*◌,
-  ◌/◌,
-  ℕ,
-  zero,
-  suc,
-  Bool,
-  true,
-  false,
-  cond,
-  eqb,
-  ltb,
-  List,
-  [],
-  ◌∷◌,
-  length,
-  get_or,
-  set,
-  Option,
-  None,
-  Some,
-  inl,
-  inr,
-  refl,
-  sym,
-  ap,
-  ◌∙◌,
-  arith,
-}
+use Rattle.std.proofs.Common.{◌≡◌, ◌≢◌, ◌<◌, ◌≤◌, ◌+◌, ◌-◌, ◌*◌, ◌/◌, ℕ, zero, suc, Bool, cond, eqb, ltb, List, [], ◌∷◌, length, get_or, set, Option, None, Some, inl, inr, refl, ap, ◌∙◌, arith}
 use Rattle.std.specs.Prelude.{count_by, is_some, ◌⊎◌}
-use Rattle.std.proofs.Math.Nat.{mul-le-mul_left, mul_comm}
-use Rattle.std.proofs.lemmas.Bool.{cases_Bool, cases_eq, cases_lt, eq-eqb, eqb-true, le-ltb, lt-ltb, ltb-false, ltb-true, ne_eqb}
+use Rattle.std.proofs.Math.Nat.{mul_comm}
+use Rattle.std.proofs.lemmas.Bool.{cases_Bool, cases_eq, cases_lt, eq-eqb, le-ltb, lt-ltb, ne_eqb}
 use Rattle.std.proofs.lemmas.List.{get_or-set_other, length-set}
 use Rattle.ff_space.specs.Blocks.{erased_block, is_erased, waiting}
-use Rattle.ff_space.specs.BlockTable.{IsInState, IsTableSound, TableView, block_at, erased_count}
+use Rattle.ff_space.specs.BlockTable.{IsInState, TableView, block_at, erased_count}
 use Rattle.ff_space.specs.Choices.{IsAllMapped, IsNoPlace}
 use Rattle.ff_space.specs.declared.block.BlockEntry.{BlockEntry}
 use Rattle.ff_space.specs.declared.block.BlockState.{BlockState}
@@ -48,7 +14,7 @@ use Rattle.ff_space.specs.declared.block.BlockState.TheVariants.{Erased, Full, H
 use Rattle.ff_map.specs.PageMap.{MapView}
 use Rattle.ff_map.specs.declared.places.Mapping.{Mapping}
 use Rattle.ff_gc.proofs.Counting.{count_cons, count_set, count_some}
-use Rattle.ff_gc.specs.Running.{IsIdle, IsTabled, is_in, mapped_in}
+use Rattle.ff_gc.specs.Running.{IsIdle, is_in, mapped_in}
 
 -- the sum of the first values
 abbrev sum_to : (ℕ → ℕ) → ℕ → ℕ

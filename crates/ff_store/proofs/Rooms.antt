@@ -1,5 +1,5 @@
 -- When a flush has room.
-use Rattle.std.proofs.Common.{◌≡◌, ◌<◌, ◌≤◌, ◌-◌, ◌*◌, ℕ, true, false, length, set, Option, None, Some, inl, inr, refl, sym, ap, subst, ◌∙◌, arith}
+use Rattle.std.proofs.Common.{◌≡◌, ◌<◌, ◌≤◌, true, false, length, set, Option, None, Some, inl, inr, refl, sym, subst, arith}
 use Rattle.std.specs.Prelude.{is_some, option_map}
 use Rattle.std.proofs.lemmas.Bool.{cases_Bool}
 use Rattle.std.proofs.lemmas.List.{length-set}
@@ -11,7 +11,7 @@ use Rattle.ff_map.specs.declared.places.Mapping.{Mapping}
 use Rattle.ff_store.proofs.Settling.{mapped_count_with}
 use Rattle.ff_store.specs.Calls.{IsCall, waiting_page}
 use Rattle.ff_store.specs.PageStore.{PageStoreView}
-use Rattle.ff_store.specs.Pages.{HasRoomForAll, mapped_count, mapped_with, page_capacity}
+use Rattle.ff_store.specs.Pages.{HasRoomForAll, mapped_with, page_capacity}
 use Rattle.ff_store.specs.declared.pending.Pending.{Pending}
 
 -- no more pages are mapped than there are

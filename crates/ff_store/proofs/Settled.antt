@@ -1,101 +1,36 @@
 -- The store after a seal.
-use Rattle.std.proofs.Common.{
-  ◌≡◌,
-  ◌≢◌,
-  ◌<◌,
-  ◌≤◌,
-  ◌+◌,
-  ◌-◌,
-  ◌*◌,
-  ◌/◌,
-  ◌%◌,
-  ℕ,
-  Bool,
-  true,
-  false,
-  cond,
-  eqb,
-  List,
-  length,
-  get_or,
-  set,
-  Option,
-  None,
-  Some,
-  inl,
-  inr,
-  refl,
-  sym,
-  ap,
-  subst,
-  ◌∙◌,
-  arith,
-}
-use Rattle.std.specs.Prelude.{◌⊎◌, Result, Ok, Err, is_some, if◌then◌else◌}
-use Rattle.std.proofs.lemmas.Bool.{cases_Bool, cases_eq, eq-eqb, ne_eqb}
+use Rattle.std.proofs.Common.{◌≡◌, ◌≢◌, ◌<◌, ◌≤◌, ◌/◌, ℕ, true, eqb, List, length, Option, None, Some, inl, inr, sym, ap, subst, ◌∙◌, arith}
+use Rattle.std.specs.Prelude.{Ok, Err}
+use Rattle.std.proofs.lemmas.Bool.{cases_eq, ne_eqb}
 use Rattle.std.proofs.lemmas.List.{length-set}
 use Rattle.std.proofs.lemmas.Option.{none-some, same_Some}
 use Rattle.ff_base.specs.declared.numbers.PageNo.{PageNo}
 use Rattle.ff_flash.proofs.OperationCells.{seal_either, seal_failed, seal_length, seal_worked}
-use Rattle.ff_flash.proofs.SealedCells.{closed_unsealed, closed_within, sealed_stays, sealed_within}
-use Rattle.ff_flash.specs.Cells.{Cell, Seals, cell_at, cell_bytes, closed, erased, sealed}
-use Rattle.ff_flash.specs.FlashState.{FlashState, Operates}
-use Rattle.ff_flash.specs.declared.flash.FlashStop.{FlashStop}
+use Rattle.ff_flash.proofs.SealedCells.{closed_unsealed, sealed_stays}
+use Rattle.ff_flash.specs.Cells.{Cell, Seals, cell_at, sealed}
+use Rattle.ff_flash.specs.FlashState.{FlashState}
 use Rattle.ff_flash.specs.declared.flash.FlashStop.TheVariants.{Failed, Off}
 use Rattle.ff_flash.specs.declared.spare.Spare.{Spare}
-use Rattle.ff_space.proofs.Changed.{block_at-changed_at, block_at-changed_at_other, length-changed_at}
-use Rattle.ff_space.specs.Blocks.{mapped_less, mapped_more}
-use Rattle.ff_space.specs.BlockTable.{IsTableSound, TableView, block_at, changed_at}
-use Rattle.ff_space.specs.declared.block.BlockEntry.{BlockEntry}
-use Rattle.ff_space.specs.declared.block.BlockState.{BlockState}
-use Rattle.ff_space.specs.declared.block.BlockState.TheVariants.{Erased, Full, Held, Open, Waiting}
-use Rattle.ff_map.proofs.Lookups.{mapping_of-with_mapping, mapping_of-with_mapping_other, mapped_page_within}
+use Rattle.ff_space.specs.BlockTable.{TableView, block_at}
+use Rattle.ff_space.specs.declared.block.BlockState.TheVariants.{Held, Waiting}
+use Rattle.ff_map.proofs.Lookups.{mapping_of-with_mapping, mapping_of-with_mapping_other}
 use Rattle.ff_map.specs.PageMap.{MapView, mapping_of, with_mapping}
 use Rattle.ff_map.specs.declared.places.Mapping.{Mapping}
-use Rattle.ff_gc.proofs.Counting.{count_set, count_some}
 use Rattle.ff_gc.proofs.Keeping.{not_off}
-use Rattle.ff_gc.proofs.Numbers.{block_within}
 use Rattle.ff_gc.proofs.PageCopies.{same_page}
 use Rattle.ff_gc.proofs.PageSeals.{tabled_sealed}
-use Rattle.ff_gc.proofs.Retaining.{cell_at-set, cell_at-set_other}
-use Rattle.ff_gc.specs.Cells.{AreMapped, AreSealed, HasNewer, IsSafe}
-use Rattle.ff_gc.specs.Collector.{CollectorView}
-use Rattle.ff_gc.specs.Running.{HasBlock, IsAt, IsLive, IsTabled, is_in, mapped_in}
+use Rattle.ff_gc.proofs.Retaining.{cell_at-set_other}
+use Rattle.ff_gc.specs.Cells.{AreMapped, AreSealed}
+use Rattle.ff_gc.specs.Running.{IsAt, IsLive}
 use Rattle.ff_gc.specs.Steps.{Makes}
-use Rattle.ff_gc.specs.World.{Fits, IsReady, World}
 use Rattle.ff_gc.specs.declared.counts.Counts.{Counts}
 use Rattle.ff_gc.specs.declared.counts.OperationKind.TheVariants.{Seal}
-use Rattle.ff_gc.specs.declared.phase.Phase.TheVariants.{Idle}
-use Rattle.ff_store.proofs.Settling.{
-  IsCounted,
-  counted_there,
-  mapped_all,
-  mapped_block,
-  mapped_count_with,
-  mapped_in_with,
-  mapped_not_waiting,
-  new_or_old,
-  one_if,
-  pending_in,
-  placed_counted,
-  placed_mapped,
-  sealed_all,
-  sealed_cells_of,
-  usable_not,
-}
+use Rattle.ff_store.proofs.Settling.{counted_there, mapped_all, mapped_block, mapped_count_with, mapped_in_with, mapped_not_waiting, new_or_old, one_if, pending_in, placed_counted, placed_mapped, sealed_all, sealed_cells_of, usable_not}
 use Rattle.ff_store.proofs.Around.{IsAside, at_aside}
-use Rattle.ff_store.proofs.Basics.{counted_after, elsewhere_none, fits_operated, ready_in, sealed_later, waiting_some, with_flash}
-use Rattle.ff_store.specs.Calls.{dropped, new_mapping, placed_table}
-use Rattle.ff_store.specs.PageStore.{
-  IsElsewhere,
-  IsPending,
-  IsStoreSound,
-  IsWaiting,
-  PageStoreView,
-  spare_of,
-  unmapped_of,
-}
-use Rattle.ff_store.specs.Pages.{page_capacity, is_mapped, mapped_count, mapped_with}
+use Rattle.ff_store.proofs.Basics.{counted_after, fits_operated, ready_in, sealed_later, with_flash}
+use Rattle.ff_store.specs.Calls.{new_mapping, placed_table}
+use Rattle.ff_store.specs.PageStore.{IsElsewhere, IsPending, IsStoreSound, PageStoreView, spare_of, unmapped_of}
+use Rattle.ff_store.specs.Pages.{page_capacity, mapped_count}
 use Rattle.ff_store.specs.declared.pending.Pending.{Pending}
 
 elsewhere_some : (waits : Option Pending) (p : Pending) (per block : ℕ) → waits ≡ Some p → IsElsewhere per waits block

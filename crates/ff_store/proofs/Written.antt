@@ -1,5 +1,5 @@
 -- The table where a page is programmed.
-use Rattle.std.proofs.Common.{◌≡◌, ◌<◌, ◌+◌, ◌*◌, ℕ, List, length, set, inr, refl, sym, ap, subst, ◌∙◌, arith}
+use Rattle.std.proofs.Common.{◌≡◌, ◌<◌, ◌*◌, ℕ, List, length, set, inr, refl, sym, ap, subst, ◌∙◌, arith}
 use Rattle.std.proofs.lemmas.List.{set-set}
 use Rattle.ff_space.proofs.Changed.{block_at-changed_at}
 use Rattle.ff_space.specs.Blocks.{CanAdvance, IsWritable, StateFits, advanced, taken_block}

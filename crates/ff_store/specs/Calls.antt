@@ -27,7 +27,7 @@ use Rattle.ff_base.specs.declared.numbers.Ppn.{Ppn}
 use Rattle.ff_flash.specs.Cells.{Programs, ReadsBytes, Seals, cell_at, cell_bytes, closed}
 use Rattle.ff_flash.specs.Injected.{stop_of}
 use Rattle.ff_flash.specs.declared.flash.FlashStop.{FlashStop}
-use Rattle.ff_flash.specs.declared.flash.FlashStop.TheVariants.{Failed, Off}
+use Rattle.ff_flash.specs.declared.flash.FlashStop.TheVariants.{Off}
 use Rattle.ff_space.specs.Blocks.{advanced, mapped_less, mapped_more}
 use Rattle.ff_space.specs.BlockTable.{TableView, IsInState, block_at, changed_at, erased_count}
 use Rattle.ff_space.specs.Choices.{IsAllMapped, IsBlockToTake, IsLeast, IsNoPlace}

@@ -1,5 +1,5 @@
 -- The pages of a store: which are mapped, and their bytes.
-use Rattle.std.specs.Prelude.{ℕ, ◌+◌, ◌-◌, ◌*◌, ◌≤◌, Bool, if◌then◌else◌, List, length, is_some, count_by}
+use Rattle.std.specs.Prelude.{ℕ, ◌+◌, ◌-◌, ◌*◌, ◌≤◌, Bool, if◌then◌else◌, length, is_some, count_by}
 use Rattle.ff_base.specs.declared.numbers.PageNo.{PageNo}
 use Rattle.ff_map.specs.PageMap.{MapView, mapping_of}
 use Rattle.ff_gc.specs.World.{World}

@@ -1,5 +1,4 @@
-use Rattle.std.proofs.Common.{◌≡◌, refl, ap, sym, ◌∙◌}
-use Rattle.ff_space.specs.BlockTable.{TableView, block_at}
+use Rattle.std.proofs.Common.{refl, ap, sym, ◌∙◌}
 use Rattle.ff_space.specs.declared.block.BlockState.TheVariants.{Waiting}
 use Rattle.ff_map.specs.PageMap.{mapping_of}
 use Rattle.ff_store.proofs.Settled.{old_counted, old_within, settled_failed, settled_off, settled_ok}
