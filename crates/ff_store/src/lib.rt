@@ -8,3 +8,6 @@ mod writing;
 
 pub use pending::Pending;
 pub use store::{FlushStep, PageStore};
+
+#[cfg(test)]
+mod tests;

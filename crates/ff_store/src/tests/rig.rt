@@ -1,0 +1,113 @@
+// A store with room for all its pages, whose calls see to it that they may be made.
+ghost use Rattle.std.specs.Prelude.{◌≡◌, IsTrue, None, is_some};
+ghost use Rattle.ff_flash.specs.FlashState.{HasOperationsLeft};
+ghost use Rattle.ff_flash.specs.Plans.{IsPlan, planned_of};
+ghost use Rattle.ff_store.specs.Pages.{HasRoomForAll};
+
+use crate::{FlushStep, PageStore};
+use ff_base::{Geometry, PageBuf, PageNo};
+use ff_flash::{Flash, FlashStop, Plan, SimFlash};
+use ff_gc::{Counts, GcStep};
+use std::alloc::Global;
+
+/// What a step of a flush answers, where it may be made.
+pub type Step = Option<Result<FlushStep, FlashStop>>;
+
+#[derive(Drop)]
+pub struct Rig {
+    store: PageStore<SimFlash>,
+    ghost room: { HasRoomForAll store.world },
+}
+
+fn no_faults(alloc: Global) -> Plan
+    ensures { IsPlan (planned_of result) }
+{
+    Plan {
+        fail: Vec::new(alloc),
+        cuts: Vec::new(alloc),
+    }
+}
+
+#[tactic(auto, using(crate::proofs::Rooms::none_waits))]
+fn may_begin(store: &PageStore<SimFlash>) -> bool
+    ensures life { IsTrue result → HasOperationsLeft store.now.world.flash }
+    ensures none { IsTrue result → store.now.waits ≡ None }
+{
+    store.flash().operation_count() < 1 << 63 && store.pending().is_none()
+}
+
+#[tactic(auto, using(crate::proofs::Rooms::some_waits))]
+fn may_seal(store: &PageStore<SimFlash>) -> bool
+    ensures life { IsTrue result → HasOperationsLeft store.now.world.flash }
+    ensures waits { IsTrue result → IsTrue (is_some store.now.waits) }
+{
+    store.flash().operation_count() < 1 << 63 && store.pending().is_some()
+}
+
+#[tactic(auto, using(crate::proofs::Rooms::room_for, crate::proofs::Rooms::room_after))]
+impl Rig {
+    pub fn new(alloc: Global, geometry: &Geometry) -> Option<Rig> {
+        if geometry.check().is_err() || geometry.capacity() < geometry.pages {
+            return None;
+        }
+        match SimFlash::new(alloc, geometry, no_faults(alloc)) {
+            Ok(flash) => match PageStore::new(alloc, flash, geometry) {
+                Ok(store) => Some(Rig { store }),
+                Err(_) => None,
+            },
+            Err(_) => None,
+        }
+    }
+
+    pub fn store(&self) -> &PageStore<SimFlash> {
+        &self.store
+    }
+
+    pub fn fetch(&mut self, page: u32, into: &mut PageBuf) -> Option<Result<(), FlashStop>> {
+        if self.store.flash().operation_count() >= 1 << 63 {
+            return None;
+        }
+        Some(self.store.fetch(PageNo(page), into))
+    }
+
+    pub fn flush_step(&mut self, page: u32, from: &PageBuf) -> Step {
+        if !may_begin(&self.store) || page >= self.store.pages() {
+            return None;
+        }
+        Some(self.store.flush_step(PageNo(page), from))
+    }
+
+    pub fn seal_step(&mut self) -> Step {
+        if !may_seal(&self.store) {
+            return None;
+        }
+        Some(self.store.seal_step())
+    }
+
+    /// Makes the steps of a flush until it ends.
+    pub fn flush(&mut self, page: u32, from: &PageBuf) -> Step {
+        for _ in 0..16 {
+            match self.flush_step(page, from) {
+                Some(Ok(FlushStep::Collected)) => {}
+                Some(Ok(FlushStep::Programmed)) => return self.seal_step(),
+                other => return other,
+            }
+        }
+        None
+    }
+
+    pub fn collect_step(&mut self) -> Option<Result<GcStep, FlashStop>> {
+        if !may_begin(&self.store) {
+            return None;
+        }
+        Some(self.store.collect_step())
+    }
+
+    pub fn power_off(&mut self) {
+        self.store.power_off();
+    }
+
+    pub fn into_flash(self) -> SimFlash {
+        self.store.into_flash()
+    }
+}
