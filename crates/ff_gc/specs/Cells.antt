@@ -39,7 +39,8 @@ pub record HasNewer (places : MapView) (spare : Spare) : Type 0 where
 
 -- the map against the cells: a mapped page is at a sealed cell of its page and version, and each sealed page is mapped,
 -- to a version that isn't older, or is the one that the map may not know
-pub record AreMapped (unmapped : Option Unmapped) (cells : List Cell) (places : MapView) : Type 0 where
+pub record AreMapped (unmapped : Option Unmapped) (cells : List Cell) (places : MapView)
+    : Type 0 where
   pub placed : (page : PageNo) (m : Mapping) → mapping_of places page ≡ Some m
       → cell_at cells m.at.0
       ≡ sealed (cell_bytes (cell_at cells m.at.0)) (record { page = page; version = m.version })

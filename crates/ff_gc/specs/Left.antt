@@ -47,7 +47,8 @@ abbrev pub IsEndingAt : List Move → TableView → Phase → Type 0
 IsEndingAt moves table Idle = 0 < open_count table.blocks + (erased_count table.blocks - 1)
 IsEndingAt moves table (Reading job) = (block_at table job.into.0).next ≡ length moves
 IsEndingAt moves table (Programming job original) = (block_at table job.into.0).next ≡ length moves
-IsEndingAt moves table (Sealing job original at) = (block_at table job.into.0).next ≡ length moves + 1
+IsEndingAt moves table (Sealing job original at) =
+    (block_at table job.into.0).next ≡ length moves + 1
 IsEndingAt moves table (Commit job) = (block_at table job.into.0).next ≡ length moves
 IsEndingAt moves table (Erasing block) = 0 < open_count table.blocks + erased_count table.blocks
 IsEndingAt moves table (Aborting block) = 0 < open_count table.blocks + erased_count table.blocks

@@ -93,7 +93,8 @@ pub record IsCopying (per_block : ℕ) (moves : List Move) (cells : List Cell) (
 
 -- a page of the victim that isn't mapped, and never will be: there are fewer copies than pages before what is seen,
 -- once it is seen
-pub record HasStale (per_block : ℕ) (moves : List Move) (places : MapView) (job : Job) : Type 0 where
+pub record HasStale (per_block : ℕ) (moves : List Move) (places : MapView) (job : Job)
+    : Type 0 where
   pub place : ℕ
   pub small : place < per_block
   pub unmapped : (page : PageNo) (m : Mapping) → mapping_of places page ≡ Some m
@@ -155,7 +156,8 @@ pub record IsProgramming (per_block : ℕ) (moves : List Move) (bytes : List ℕ
   pub stale : HasStaleBeside per_block moves places job original.from
 
 pub record IsSealing (per_block : ℕ) (moves : List Move) (bytes : List ℕ) (cells : List Cell)
-    (table : TableView) (places : MapView) (job : Job) (original : Original) (at : Ppn) : Type 0 where
+    (table : TableView) (places : MapView) (job : Job) (original : Original) (at : Ppn)
+    : Type 0 where
   pub programming : IsProgramming per_block moves bytes cells table places job original
   pub copy : IsProgrammedCopy per_block moves bytes cells table job original at
 

@@ -31,7 +31,8 @@ operation_of (Ok _) = Ok tt
 operation_of (Err stop) = Err stop
 
 -- one operation of the flash was made, and counted under its kind, also where it failed or was cut
-pub record Makes (kind : OperationKind) (old : World) (stop : Option FlashStop) (new : World) : Type 0 where
+pub record Makes (kind : OperationKind) (old : World) (stop : Option FlashStop) (new : World)
+    : Type 0 where
   pub flash : Operates old.flash stop new.flash
   pub counts : new.counts ≡ begun kind old.counts
 
@@ -45,20 +46,25 @@ abbrev pub next_place : ℕ → TableView → Job → ℕ
 next_place per_block table job = job.into.0 * per_block + (block_at table job.into.0).next
 
 -- a page of the victim is read
-abbrev pub after_read : CollectorView → Job → Original → Result GcStep FlashStop → List ℕ → CollectorView
-after_read gc job original (Ok _) bytes = record gc { phase = Programming job original; bytes = bytes }
+abbrev pub after_read : CollectorView → Job → Original → Result GcStep FlashStop → List ℕ
+    → CollectorView
+after_read gc job original (Ok _) bytes =
+    record gc { phase = Programming job original; bytes = bytes }
 after_read gc job original (Err _) bytes = gc
 
-pub record ReadsPage (old : World) (job : Job) (original : Original) (result : Result GcStep FlashStop) (new : World) : Type 0 where
+pub record ReadsPage (old : World) (job : Job) (original : Original)
+    (result : Result GcStep FlashStop) (new : World) : Type 0 where
   pub operation : Makes ReadOperation old (stop_of result) new
-  pub cells : ReadsBytes old.flash.cells original.from.0 old.gc.bytes (operation_of result) new.gc.bytes new.flash.cells
+  pub cells : ReadsBytes old.flash.cells original.from.0 old.gc.bytes (operation_of result)
+      new.gc.bytes new.flash.cells
   pub step : IfOk result (λ step. step ≡ Read)
   pub gc : new.gc ≡ after_read old.gc job original result new.gc.bytes
   pub table : new.table ≡ old.table
   pub places : new.places ≡ old.places
 
 -- the copy of a page is programmed. A page that failed is spoiled, so the write place moves on then too
-abbrev pub after_program : CollectorView → Job → Original → Ppn → Result GcStep FlashStop → CollectorView
+abbrev pub after_program : CollectorView → Job → Original → Ppn → Result GcStep FlashStop
+    → CollectorView
 after_program gc job original at (Ok _) = record gc { phase = Sealing job original at }
 after_program gc job original at (Err _) = gc
 
@@ -66,27 +72,34 @@ abbrev pub table_after_program : TableView → Job → Result GcStep FlashStop �
 table_after_program table job (Err Off) = table
 table_after_program table job _ = changed_at table job.into.0 (advanced table.per_block)
 
-pub record ProgramsCopy (old : World) (job : Job) (original : Original) (result : Result GcStep FlashStop) (new : World) : Type 0 where
+pub record ProgramsCopy (old : World) (job : Job) (original : Original)
+    (result : Result GcStep FlashStop) (new : World) : Type 0 where
   pub at : Ppn
   pub at_is : at.0 ≡ next_place old.gc.per_block old.table job
   pub operation : Makes ProgramOperation old (stop_of result) new
-  pub cells : Programs old.flash.cells at.0 old.gc.bytes (spare_in original) (operation_of result) new.flash.cells
+  pub cells : Programs old.flash.cells at.0 old.gc.bytes (spare_in original) (operation_of result)
+      new.flash.cells
   pub step : IfOk result (λ step. step ≡ Programmed)
   pub gc : new.gc ≡ after_program old.gc job original at result
   pub table : new.table ≡ table_after_program old.table job result
   pub places : new.places ≡ old.places
 
 -- the copy of a page is sealed. A copy that failed is programmed anew
-pub record AfterSeal (per_block : ℕ) (old : World) (job : Job) (original : Original) (at : Ppn) (new : CollectorView) : Type 0 where
+pub record AfterSeal (per_block : ℕ) (old : World) (job : Job) (original : Original) (at : Ppn)
+    (new : CollectorView) : Type 0 where
   pub phase : IsAfter per_block old.places (past per_block job original) new.phase
-  pub gc : new ≡ record old.gc { phase = new.phase; moves = old.gc.moves ++ move_to original at ∷ [] }
+  pub gc : new ≡
+      record old.gc { phase = new.phase; moves = old.gc.moves ++ move_to original at ∷ [] }
 
-abbrev pub GcAfterSeal : World → Job → Original → Ppn → Result GcStep FlashStop → CollectorView → Type 0
+abbrev pub GcAfterSeal : World → Job → Original → Ppn → Result GcStep FlashStop → CollectorView
+    → Type 0
 GcAfterSeal old job original at (Ok _) new = AfterSeal old.gc.per_block old job original at new
-GcAfterSeal old job original at (Err Failed) new = new ≡ record old.gc { phase = Programming job original }
+GcAfterSeal old job original at (Err Failed) new =
+    new ≡ record old.gc { phase = Programming job original }
 GcAfterSeal old job original at (Err Off) new = new ≡ old.gc
 
-pub record SealsCopy (old : World) (job : Job) (original : Original) (at : Ppn) (result : Result GcStep FlashStop) (new : World) : Type 0 where
+pub record SealsCopy (old : World) (job : Job) (original : Original) (at : Ppn)
+    (result : Result GcStep FlashStop) (new : World) : Type 0 where
   pub operation : Makes SealOperation old (stop_of result) new
   pub cells : Seals old.flash.cells at.0 (operation_of result) new.flash.cells
   pub step : IfOk result (λ step. step ≡ Sealed)
@@ -95,7 +108,8 @@ pub record SealsCopy (old : World) (job : Job) (original : Original) (at : Ppn) 
   pub places : new.places ≡ old.places
 
 -- all copies are switched at once, where the page is still at the victim's place. No operation is made
-pub record Commits (old : World) (job : Job) (result : Result GcStep FlashStop) (new : World) : Type 0 where
+pub record Commits (old : World) (job : Job) (result : Result GcStep FlashStop) (new : World)
+    : Type 0 where
   pub step : result ≡ Ok Committed
   pub gc : new.gc ≡ record old.gc { phase = Erasing job.victim; moves = [] }
   pub flash : new.flash ≡ old.flash
@@ -112,34 +126,47 @@ abbrev pub table_after_erase : TableView → Block → Result GcStep FlashStop �
 table_after_erase table block (Ok _) = changed_at table block.0 (λ _. erased_block)
 table_after_erase table block (Err _) = table
 
-pub record ErasesBlock (old : World) (block : Block) (ends : GcStep) (result : Result GcStep FlashStop) (new : World) : Type 0 where
+pub record ErasesBlock (old : World) (block : Block) (ends : GcStep)
+    (result : Result GcStep FlashStop) (new : World) : Type 0 where
   pub operation : Makes EraseOperation old (stop_of result) new
-  pub cells : Erases old.flash.per_block old.flash.cells block.0 (operation_of result) new.flash.cells
+  pub cells : Erases old.flash.per_block old.flash.cells block.0 (operation_of result)
+      new.flash.cells
   pub step : IfOk result (λ step. step ≡ ends)
   pub gc : new.gc ≡ after_erase old.gc result
   pub table : new.table ≡ table_after_erase old.table block result
   pub places : new.places ≡ old.places
 
 -- the next page of the victim that is still mapped there is read. Where there is none, as in Commit
-pub data ReadsNext (old : World) (job : Job) (result : Result GcStep FlashStop) (new : World) : Type 0 where
+pub data ReadsNext (old : World) (job : Job) (result : Result GcStep FlashStop) (new : World)
+    : Type 0 where
   reads : (original : Original) → IsNext old.gc.per_block old.places job original
       → ReadsPage old job original result new → ReadsNext old job result new
-  none : IsAllSeen old.gc.per_block old.places job → Commits old job result new → ReadsNext old job result new
+  none : IsAllSeen old.gc.per_block old.places job → Commits old job result new
+      → ReadsNext old job result new
 
 -- the copies are forgotten, and their block waits to be erased
 abbrev pub given_up : World → Job → World
-given_up w job = record w { gc = record w.gc { phase = Aborting job.into; moves = [] }; table = changed_at w.table job.into.0 waiting }
+given_up w job = record w {
+  gc = record w.gc { phase = Aborting job.into; moves = [] };
+  table = changed_at w.table job.into.0 waiting;
+}
 
 -- the copy is programmed where the destination has a page left. Else the collection is given up
-pub data ProgramsNext (old : World) (job : Job) (original : Original) (result : Result GcStep FlashStop) (new : World) : Type 0 where
-  programs : (block_at old.table job.into.0).next < old.gc.per_block → ProgramsCopy old job original result new
+pub data ProgramsNext (old : World) (job : Job) (original : Original)
+    (result : Result GcStep FlashStop) (new : World) : Type 0 where
+  programs : (block_at old.table job.into.0).next < old.gc.per_block
+      → ProgramsCopy old job original result new
       → ProgramsNext old job original result new
-  full : old.gc.per_block ≤ (block_at old.table job.into.0).next → ErasesBlock (given_up old job) job.into Aborted result new
+  full : old.gc.per_block ≤ (block_at old.table job.into.0).next
+      → ErasesBlock (given_up old job) job.into Aborted result new
       → ProgramsNext old job original result new
 
 -- a block without mapped pages waits to be erased
 abbrev pub emptying : World → Block → World
-emptying w victim = record w { gc = record w.gc { phase = Erasing victim }; table = changed_at w.table victim.0 waiting }
+emptying w victim = record w {
+  gc = record w.gc { phase = Erasing victim };
+  table = changed_at w.table victim.0 waiting;
+}
 
 -- a collection of a block that begins
 abbrev pub job_of : Block → Block → Job
@@ -147,15 +174,21 @@ job_of victim into = record { victim = victim; into = into; seen = 0 }
 
 abbrev pub begun_with : World → Job → World
 begun_with w job =
-    record w { gc = record w.gc { phase = Reading job; moves = [] }; table = changed_at w.table job.into.0 (after_hold w.table.per_block true) }
+    record w {
+      gc = record w.gc { phase = Reading job; moves = [] };
+      table = changed_at w.table job.into.0 (after_hold w.table.per_block true);
+    }
 
 -- a collection begins, where a block can be collected
 pub data Begins (old : World) (result : Result GcStep FlashStop) (new : World) : Type 0 where
   idle : IsAllMapped old.table → result ≡ Ok IdleStep → new ≡ old → Begins old result new
-  empty : (victim : Block) → IsVictimBlock old.table.per_block old.table.blocks victim.0 → (block_at old.table victim.0).mapped ≡ 0
+  empty : (victim : Block) → IsVictimBlock old.table.per_block old.table.blocks victim.0
+      → (block_at old.table victim.0).mapped ≡ 0
       → ErasesBlock (emptying old victim) victim Erased result new → Begins old result new
-  mapped : (victim into : Block) → IsVictimBlock old.table.per_block old.table.blocks victim.0 → 0 < (block_at old.table victim.0).mapped
-      → IsLeast (IsInState old.table.blocks ErasedBlock) into.0 → ReadsNext (begun_with old (job_of victim into)) (job_of victim into) result new
+  mapped : (victim into : Block) → IsVictimBlock old.table.per_block old.table.blocks victim.0
+      → 0 < (block_at old.table victim.0).mapped
+      → IsLeast (IsInState old.table.blocks ErasedBlock) into.0
+      → ReadsNext (begun_with old (job_of victim into)) (job_of victim into) result new
       → Begins old result new
 
 -- the step by what the collector does next

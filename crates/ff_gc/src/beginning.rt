@@ -27,7 +27,8 @@ impl Collector {
         map: &mut PageMap,
         counts: &mut Counts,
     ) -> Result<GcStep, FlashStop>
-        requires ready { IsReady (world_of self.old (F.state flash.old) space.old map.old counts.old) }
+        requires ready { IsReady
+            (world_of self.old (F.state flash.old) space.old map.old counts.old) }
         requires life { HasOperationsLeft (F.state flash.old) }
         requires counted { total_of counts.old < 2 ^ 63 }
         requires phase { self.old.phase ≡ Idle }
@@ -48,7 +49,8 @@ impl Collector {
         counts: &mut Counts,
         victim: Block,
     ) -> Result<GcStep, FlashStop>
-        requires ready { IsReady (world_of self.old (F.state flash.old) space.old map.old counts.old) }
+        requires ready { IsReady
+            (world_of self.old (F.state flash.old) space.old map.old counts.old) }
         requires life { HasOperationsLeft (F.state flash.old) }
         requires counted { total_of counts.old < 2 ^ 63 }
         requires phase { self.old.phase ≡ Idle }

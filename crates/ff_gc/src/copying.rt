@@ -28,11 +28,13 @@ impl Collector {
         counts: &mut Counts,
         job: Job,
     ) -> Result<GcStep, FlashStop>
-        requires ready { IsReady (world_of self.old (F.state flash.old) space.old map.old counts.old) }
+        requires ready { IsReady
+            (world_of self.old (F.state flash.old) space.old map.old counts.old) }
         requires life { HasOperationsLeft (F.state flash.old) }
         requires counted { total_of counts.old < 2 ^ 63 }
         requires phase { self.old.phase ≡ Reading job }
-        ensures { ReadsNext (world_of self.old (F.state flash.old) space.old map.old counts.old) job result
+        ensures { ReadsNext (world_of self.old (F.state flash.old) space.old map.old counts.old)
+            job result
             (world_of self.new (F.state flash.new) space.new map.new counts.new) }
     {
         match next_original(map, self.per_block, job) {
@@ -54,7 +56,8 @@ impl Collector {
         requires counted { total_of counts.old < 2 ^ 63 }
         requires place { original.from.0 < length (F.state flash.old).cells }
         requires sealed { IsSealed (cell_at (F.state flash.old).cells original.from.0) }
-        ensures { ReadsPage (world_of self.old (F.state flash.old) space.now map.now counts.old) job original result
+        ensures { ReadsPage (world_of self.old (F.state flash.old) space.now map.now counts.old)
+            job original result
             (world_of self.new (F.state flash.new) space.now map.now counts.new) }
     {
         let _ = space;
@@ -79,11 +82,13 @@ impl Collector {
         job: Job,
         original: Original,
     ) -> Result<GcStep, FlashStop>
-        requires ready { IsReady (world_of self.old (F.state flash.old) space.old map.now counts.old) }
+        requires ready { IsReady
+            (world_of self.old (F.state flash.old) space.old map.now counts.old) }
         requires life { HasOperationsLeft (F.state flash.old) }
         requires counted { total_of counts.old < 2 ^ 63 }
         requires phase { self.old.phase ≡ Programming job original }
-        ensures { ProgramsNext (world_of self.old (F.state flash.old) space.old map.now counts.old) job original result
+        ensures { ProgramsNext (world_of self.old (F.state flash.old) space.old map.now counts.old)
+            job original result
             (world_of self.new (F.state flash.new) space.new map.now counts.new) }
     {
         let next = space.next(job.into);
@@ -114,7 +119,8 @@ impl Collector {
         requires at { at.0 ≡ next_place self.old.per_block space.old job }
         requires place { at.0 < length (F.state flash.old).cells }
         requires erased { cell_at (F.state flash.old).cells at.0 ≡ erased }
-        ensures { ProgramsCopy (world_of self.old (F.state flash.old) space.old map.now counts.old) job original result
+        ensures { ProgramsCopy (world_of self.old (F.state flash.old) space.old map.now counts.old)
+            job original result
             (world_of self.new (F.state flash.new) space.new map.now counts.new) }
     {
         let _ = map;
@@ -151,7 +157,8 @@ impl Collector {
         requires room { length self.old.moves < self.old.per_block }
         requires some { 0 < self.old.per_block }
         requires small { job.victim.0 * self.old.per_block + self.old.per_block < 2 ^ 32 }
-        ensures { SealsCopy (world_of self.old (F.state flash.old) space.now map.now counts.old) job original at result
+        ensures { SealsCopy (world_of self.old (F.state flash.old) space.now map.now counts.old)
+            job original at result
             (world_of self.new (F.state flash.new) space.now map.now counts.new) }
     {
         let _ = space;

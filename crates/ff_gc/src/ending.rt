@@ -28,7 +28,8 @@ impl Collector {
     ) -> Result<GcStep, FlashStop>
         requires moves { CanSwitch map.old self.old.moves }
         requires blocks { CanEnd space.old job.victim.0 job.into.0 }
-        ensures { Commits (world_of self.old (F.state flash.now) space.old map.old counts.now) job result
+        ensures { Commits (world_of self.old (F.state flash.now) space.old map.old counts.now)
+            job result
             (world_of self.new (F.state flash.now) space.new map.new counts.now) }
     {
         let _ = flash;
@@ -54,7 +55,8 @@ impl Collector {
         requires counted { total_of counts.old < 2 ^ 63 }
         requires waits { IsInState space.old.blocks Waiting block.0 }
         requires size { (F.state flash.old).blocks ≡ length space.old.blocks }
-        ensures { ErasesBlock (world_of self.old (F.state flash.old) space.old map.now counts.old) block ends result
+        ensures { ErasesBlock (world_of self.old (F.state flash.old) space.old map.now counts.old)
+            block ends result
             (world_of self.new (F.state flash.new) space.new map.now counts.new) }
     {
         let _ = map;

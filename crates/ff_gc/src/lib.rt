@@ -13,3 +13,6 @@ mod phase;
 pub use collector::{Collector, GcStep};
 pub use counts::{Counts, OperationKind};
 pub use phase::{Job, Original, Phase};
+
+#[cfg(test)]
+mod tests;

@@ -47,7 +47,8 @@ pub fn next_original(map: &PageMap, per_block: u32, job: Job) -> Option<Original
     requires some { 0 < per_block }
     requires seen { job.seen ≤ per_block }
     requires small { job.victim.0 * per_block + per_block < 2 ^ 32 }
-    ensures { MatchOption result (IsAllSeen per_block map.now job) (λ original. IsNext per_block map.now job original) }
+    ensures { MatchOption result (IsAllSeen per_block map.now job)
+        (λ original. IsNext per_block map.now job original) }
 {
     let first = job.victim.0 * per_block;
     for place in job.seen..per_block {

@@ -56,7 +56,8 @@ pub record SameStore (old new : PageStoreView) : Type 0 where
   pub opened : new.opened ≡ old.opened
 
 -- a call that begins with the power on makes one operation of the flash, or none
-pub record IsCall (old : PageStoreView) (stop : Option FlashStop) (new : PageStoreView) : Type 0 where
+pub record IsCall (old : PageStoreView) (stop : Option FlashStop) (new : PageStoreView)
+    : Type 0 where
   pub same : SameStore old new
   pub takes : Takes old.world stop new.world
 

@@ -12,10 +12,13 @@ abbrev pub is_ending : List Move → TableView → Phase → Bool
 is_ending moves table Idle = not (open_count table.blocks + (erased_count table.blocks - 1) == 0)
 is_ending moves table (Reading job) = (block_at table job.into.0).next == length moves
 is_ending moves table (Programming job original) = (block_at table job.into.0).next == length moves
-is_ending moves table (Sealing job original at) = (block_at table job.into.0).next == length moves + 1
+is_ending moves table (Sealing job original at) =
+    (block_at table job.into.0).next == length moves + 1
 is_ending moves table (Commit job) = (block_at table job.into.0).next == length moves
-is_ending moves table (Erasing block) = not (open_count table.blocks + erased_count table.blocks == 0)
-is_ending moves table (Aborting block) = not (open_count table.blocks + erased_count table.blocks == 0)
+is_ending moves table (Erasing block) =
+    not (open_count table.blocks + erased_count table.blocks == 0)
+is_ending moves table (Aborting block) =
+    not (open_count table.blocks + erased_count table.blocks == 0)
 
 -- at most so many steps are left until no collection runs and there is a page to program, where no step fails: those of
 -- this collection, and of one more where this one doesn't end with such a page

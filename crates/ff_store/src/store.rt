@@ -61,9 +61,13 @@ impl<F: Flash> Model for PageStore<F> {
 
     ghost use Rattle.ff_store.specs.PageStoreFields.{IsKept};
 
-    ghost view = { λ s. record { world = world_of s.collector (F.state s.flash) s.space s.places s.counts; waits = s.waits; owed = s.owed; low = s.low; opened = s.opened } };
+    ghost view = { λ s. record {
+        world = world_of s.collector (F.state s.flash) s.space s.places s.counts;
+        waits = s.waits; owed = s.owed; low = s.low; opened = s.opened } };
 
-    ghost invariant = { λ s. IsKept (record { world = world_of s.collector (F.state s.flash) s.space s.places s.counts; waits = s.waits; owed = s.owed; low = s.low; opened = s.opened }) s.per_block };
+    ghost invariant = { λ s. IsKept (record {
+        world = world_of s.collector (F.state s.flash) s.space s.places s.counts;
+        waits = s.waits; owed = s.owed; low = s.low; opened = s.opened }) s.per_block };
 }
 
 #[derive(Drop)]
@@ -92,8 +96,10 @@ impl<F: Flash> PageStore<F> {
         requires geometry { IsWithinLimits geometry.now }
         requires blocks { (F.state flash).blocks ≡ geometry.now.blocks }
         requires per_block { (F.state flash).per_block ≡ geometry.now.per_block }
-        requires cells { (F.state flash).cells ≡ replicate (geometry.now.blocks * geometry.now.per_block) erased }
-        ensures { MatchResult result (λ store. store ≡ new_store (F.state flash) geometry.now) (λ back. back ≡ flash) }
+        requires cells { (F.state flash).cells
+            ≡ replicate (geometry.now.blocks * geometry.now.per_block) erased }
+        ensures { MatchResult result (λ store. store ≡ new_store (F.state flash) geometry.now)
+            (λ back. back ≡ flash) }
     {
         let opened = flash.operation_count();
         match make_parts(alloc, geometry) {
@@ -158,7 +164,8 @@ impl<F: Flash> PageStore<F> {
         ensures call { self.old.world.flash.on ≡ true → IsCall self.old (stop_of result) self.new }
         ensures bytes { IfOk result (λ _. into.new ≡ page_bytes self.old.world page) }
         ensures kept { IfErr result (λ _. into.new ≡ into.old) }
-        ensures mapped { self.old.world.flash.on ≡ true → MatchOption (place_of self.old.world.places page)
+        ensures mapped { self.old.world.flash.on ≡ true
+            → MatchOption (place_of self.old.world.places page)
             ((self.new ≡ self.old) × (result ≡ Ok tt))
             (λ at. Fetches self.old at into.old result into.new self.new) }
     {
@@ -195,7 +202,8 @@ impl<F: Flash> PageStore<F> {
         requires room { mapped_with self.old.world.places page ≤ page_capacity self.old.world }
         ensures off { self.old.world.flash.on ≡ false → (result ≡ Err Off) × (self.new ≡ self.old) }
         ensures call { self.old.world.flash.on ≡ true → IsCall self.old (stop_of result) self.new }
-        ensures step { self.old.world.flash.on ≡ true → Flushes self.old page from.now result self.new }
+        ensures step { self.old.world.flash.on ≡ true
+            → Flushes self.old page from.now result self.new }
         ensures same { SameBytes self.old self.new }
         ensures programmed { result ≡ Ok Programmed → IsProgrammed self.new page from.now }
         ensures none { result ≢ Ok Programmed → self.new.waits ≡ None }
@@ -284,7 +292,8 @@ impl<F: Flash> PageStore<F> {
         requires page { page.0 < length self.old.world.places.pages }
         requires room { mapped_with self.old.world.places page ≤ page_capacity self.old.world }
         requires place { IsWritePlace self.old.world.table place.block.0 place.at.0 }
-        requires state { (block_at self.old.world.table place.block.0).state ≡ (if place.erased then Erased else Open) }
+        requires state { (block_at self.old.world.table place.block.0).state
+            ≡ (if place.erased then Erased else Open) }
         ensures { ProgramsPage self.old page from.now result self.new }
     {
         self.known();
@@ -316,7 +325,8 @@ impl<F: Flash> PageStore<F> {
         requires waits { IsTrue (is_some self.old.waits) }
         ensures off { self.old.world.flash.on ≡ false → (result ≡ Err Off) × (self.new ≡ self.old) }
         ensures call { self.old.world.flash.on ≡ true → IsCall self.old (stop_of result) self.new }
-        ensures step { self.old.world.flash.on ≡ true → IfSome self.old.waits (λ p. SealsPage self.old p result self.new) }
+        ensures step { self.old.world.flash.on ≡ true
+            → IfSome self.old.waits (λ p. SealsPage self.old p result self.new) }
         ensures placed { IfOk result (λ step. MatchSealed self.old step self.new) }
         ensures stopped { IfErr result (λ _. SameBytes self.old self.new) }
     {
@@ -371,7 +381,8 @@ impl<F: Flash> PageStore<F> {
         requires none { self.old.waits ≡ None }
         ensures off { self.old.world.flash.on ≡ false → (result ≡ Err Off) × (self.new ≡ self.old) }
         ensures call { self.old.world.flash.on ≡ true → IsCall self.old (stop_of result) self.new }
-        ensures step { self.old.world.flash.on ≡ true → Collects self.old.owed self.old result self.new }
+        ensures step { self.old.world.flash.on ≡ true
+            → Collects self.old.owed self.old result self.new }
         ensures same { SameBytes self.old self.new }
     {
         if !self.flash.is_on() {
@@ -408,7 +419,8 @@ impl<F: Flash> PageStore<F> {
 
     /// Turns the power off.
     pub fn power_off(&mut self)
-        ensures { self.new ≡ record self.old { world = record self.old.world { flash = powered_off self.old.world.flash } } }
+        ensures { self.new ≡ record self.old {
+            world = record self.old.world { flash = powered_off self.old.world.flash } } }
     {
         self.flash.power_off();
     }

@@ -27,7 +27,8 @@ pub fn write_place(space: &BlockTable, per_block: u32) -> Option<WritePlace>
     requires per_block { per_block ≡ space.now.per_block }
     requires some { 0 < per_block }
     requires small { length space.now.blocks * per_block < 2 ^ 32 }
-    ensures { MatchOption result (IsNoPlace space.now) (λ place. IsWritePlace space.now place.block.0 place.at.0
+    ensures { MatchOption result (IsNoPlace space.now)
+        (λ place. IsWritePlace space.now place.block.0 place.at.0
         × ((block_at space.now place.block.0).state ≡ (if place.erased then Erased else Open))) }
 {
     space.known();
@@ -49,8 +50,10 @@ pub fn write_place(space: &BlockTable, per_block: u32) -> Option<WritePlace>
 /// Records that the page was programmed.
 pub fn use_place(space: &mut BlockTable, place: WritePlace)
     requires in_range { place.block.0 < length space.old.blocks }
-    requires state { (block_at space.old place.block.0).state ≡ (if place.erased then Erased else Open) }
-    ensures { space.new ≡ changed_at space.old place.block.0 (λ entry. advanced space.old.per_block (opened_block entry)) }
+    requires state { (block_at space.old place.block.0).state
+        ≡ (if place.erased then Erased else Open) }
+    ensures { space.new ≡ changed_at space.old place.block.0
+        (λ entry. advanced space.old.per_block (opened_block entry)) }
 {
     match place.erased {
         true => use_erased(space, place.block),
@@ -62,7 +65,8 @@ pub fn use_place(space: &mut BlockTable, place: WritePlace)
 fn use_open(space: &mut BlockTable, block: Block)
     requires in_range { block.0 < length space.old.blocks }
     requires state { (block_at space.old block.0).state ≡ Open }
-    ensures { space.new ≡ changed_at space.old block.0 (λ entry. advanced space.old.per_block (opened_block entry)) }
+    ensures { space.new ≡ changed_at space.old block.0
+        (λ entry. advanced space.old.per_block (opened_block entry)) }
 {
     space.known();
     space.advance(block);
@@ -72,7 +76,8 @@ fn use_open(space: &mut BlockTable, block: Block)
 fn use_erased(space: &mut BlockTable, block: Block)
     requires in_range { block.0 < length space.old.blocks }
     requires state { (block_at space.old block.0).state ≡ Erased }
-    ensures { space.new ≡ changed_at space.old block.0 (λ entry. advanced space.old.per_block (opened_block entry)) }
+    ensures { space.new ≡ changed_at space.old block.0
+        (λ entry. advanced space.old.per_block (opened_block entry)) }
 {
     space.known();
     space.take(block);
@@ -82,8 +87,10 @@ fn use_erased(space: &mut BlockTable, block: Block)
 /// The old place of a page is counted no more.
 pub fn drop_old(space: &mut BlockTable, places: &PageMap, per_block: u32, page: PageNo)
     requires some { 0 < per_block }
-    requires within { ForSome (mapping_of places.now page) (λ m. m.at.0 / per_block < length space.old.blocks) }
-    requires counted { ForSome (mapping_of places.now page) (λ m. 0 < (block_at space.old (m.at.0 / per_block)).mapped) }
+    requires within { ForSome (mapping_of places.now page)
+        (λ m. m.at.0 / per_block < length space.old.blocks) }
+    requires counted { ForSome (mapping_of places.now page)
+        (λ m. 0 < (block_at space.old (m.at.0 / per_block)).mapped) }
     ensures { space.new ≡ dropped per_block space.old (mapping_of places.now page) }
 {
     if let Some(at) = places.get(page) {
