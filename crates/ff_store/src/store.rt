@@ -62,12 +62,20 @@ impl<F: Flash> Model for PageStore<F> {
     ghost use Rattle.ff_store.specs.PageStoreFields.{IsKept};
 
     ghost view = { λ s. record {
-        world = world_of s.collector (F.state s.flash) s.space s.places s.counts;
-        waits = s.waits; owed = s.owed; low = s.low; opened = s.opened } };
+      world = world_of s.collector (F.state s.flash) s.space s.places s.counts;
+      waits = s.waits;
+      owed = s.owed;
+      low = s.low;
+      opened = s.opened;
+    } };
 
     ghost invariant = { λ s. IsKept (record {
-        world = world_of s.collector (F.state s.flash) s.space s.places s.counts;
-        waits = s.waits; owed = s.owed; low = s.low; opened = s.opened }) s.per_block };
+      world = world_of s.collector (F.state s.flash) s.space s.places s.counts;
+      waits = s.waits;
+      owed = s.owed;
+      low = s.low;
+      opened = s.opened;
+    }) s.per_block };
 }
 
 #[derive(Drop)]
@@ -420,7 +428,8 @@ impl<F: Flash> PageStore<F> {
     /// Turns the power off.
     pub fn power_off(&mut self)
         ensures { self.new ≡ record self.old {
-            world = record self.old.world { flash = powered_off self.old.world.flash } } }
+          world = record self.old.world { flash = powered_off self.old.world.flash };
+        } }
     {
         self.flash.power_off();
     }

@@ -53,8 +53,8 @@ fn make_all(rt: &impl Abort, rig: &mut Rig, page: &mut PageBuf, calls: &[Call]) 
     }
 }
 
-// The first seven stores of a run with a cache of one page: a store flushes the page before it, and fetches its own.
-const SEVEN: [Call; 8] = [
+// Seven stores before a cache of one page: a store flushes the page of the one before it, and fetches its own.
+const SEVEN_STORES: [Call; 8] = [
     Call::Flush(0, 0xa0),
     Call::Flush(1, 0xa1),
     Call::Flush(2, 0xa2),
@@ -69,7 +69,7 @@ const SEVEN: [Call; 8] = [
 fn a_flush_without_a_place_collects(rt: HostRuntime) -> Result<(), Fail> {
     let mut page = PageBuf::new(rt.alloc())?;
     let mut rig = Rig::new(rt.alloc(), &small(4, 1)).expect(&rt, "want of memory");
-    make_all(&rt, &mut rig, &mut page, &SEVEN);
+    make_all(&rt, &mut rig, &mut page, &SEVEN_STORES);
     assert_eq!(rt; rig.store().flash().operation_count(), 14);
     assert!(rt; rig.store().wants_collect());
     let last = [
@@ -91,7 +91,7 @@ fn a_page_flushed_anew_keeps_its_bytes_over_a_commit(rt: HostRuntime) -> Result<
     let mut page = PageBuf::new(rt.alloc())?;
     let mut rig = Rig::new(rt.alloc(), &small(6, 8)).expect(&rt, "want of memory");
     assert!(rt; !rig.store().wants_collect());
-    make_all(&rt, &mut rig, &mut page, &SEVEN);
+    make_all(&rt, &mut rig, &mut page, &SEVEN_STORES);
     assert!(rt; rig.store().wants_collect());
     let calls = [
         Call::Collect(GcStep::Read),

@@ -7,7 +7,7 @@ ghost use Rattle.ff_store.specs.Pages.{HasRoomForAll};
 use crate::{FlushStep, PageStore};
 use ff_base::{Geometry, PageBuf, PageNo};
 use ff_flash::{Flash, FlashStop, Plan, SimFlash};
-use ff_gc::{Counts, GcStep};
+use ff_gc::GcStep;
 use std::alloc::Global;
 
 /// What a step of a flush answers, where it may be made.

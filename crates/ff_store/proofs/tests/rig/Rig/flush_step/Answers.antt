@@ -1,4 +1,4 @@
-use Rattle.std.proofs.Common.{arith, ◌<◌, ℕ, length}
+use Rattle.std.proofs.Common.{arith}
 use Rattle.ff_store.proofs.Rooms.{room_for}
 use Rattle.ff_store.proofs.tests.rig.Rig.flush_step.Goals as goal
 
