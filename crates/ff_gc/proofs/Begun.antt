@@ -2,7 +2,16 @@
 use Rattle.std.proofs.Common.{◌≡◌, ◌≢◌, ◌<◌, ◌≤◌, ◌+◌, ◌*◌, ◌/◌, ◌%◌, ℕ, zero, suc, Bool, true, false, eqb, ltb, [], Option, Some, None, inl, inr, refl, sym, ap, subst, ◌∙◌, arith}
 use Rattle.std.specs.Prelude.{count_by, ◌⊎◌, ◌&&◌}
 use Rattle.std.proofs.lemmas.Bool.{
-  and_from, and_parts, and_right, both_ways, cases_lt, eq-eqb, eqb-true, lt-ltb, ltb-true, ne_eqb
+  and_from,
+  and_parts,
+  and_right,
+  both_ways,
+  cases_lt,
+  eq-eqb,
+  eqb-true,
+  lt-ltb,
+  ltb-true,
+  ne_eqb,
 }
 use Rattle.ff_base.specs.declared.numbers.Block.{Block}
 use Rattle.ff_base.specs.declared.numbers.PageNo.{PageNo}
@@ -39,9 +48,9 @@ among_more per block n (Some m) is =
     let parts = and_parts (eqb (m.at.0 / per) block) (ltb (m.at.0 % per) n) is in
     let below = ltb-true (m.at.0 % per) n parts.1 in (
       and_from (eqb (m.at.0 / per) block) (ltb (m.at.0 % per) (suc n)) parts.0
-      (lt-ltb (m.at.0 % per) (suc n) (omega arith)),
+          (lt-ltb (m.at.0 % per) (suc n) (omega arith)),
       and_right (eqb (m.at.0 / per) block) (eqb (m.at.0 % per) n)
-      (ne_eqb (m.at.0 % per) n (λ same. absurd (omega arith))),
+          (ne_eqb (m.at.0 % per) n (λ same. absurd (omega arith))),
     )
 
 next_among : (per block n : ℕ) (x : Option Mapping) → is_next per block n x ≡ true
@@ -64,7 +73,7 @@ record HasUnmapped (per block n : ℕ) (places : MapView) : Type 0 where
   pub place : ℕ
   pub small : place < n
   pub unmapped : (page : PageNo) (m : Mapping) → mapping_of places page ≡ Some m
-    → m.at.0 ≢ block * per + place
+      → m.at.0 ≢ block * per + place
 
 -- of the first pages of the block one isn't mapped, or as many are counted
 find_unmapped : (per block n : ℕ) (places : MapView) → n ≤ per
@@ -78,23 +87,23 @@ find_unmapped per block (suc n) places most = elim (find_unmapped per block n pl
       elim (cases_lt 0 (count_by (λ (x : Option Mapping). is_next per block n x) places.pages)) [
         | inl some ↦
             let more = count_apart (λ (x : Option Mapping). is_among per block n x)
-              (λ (x : Option Mapping). is_next per block n x) (λ (x : Option Mapping). is_among per block (suc n) x)
-              places.pages (among_more per block n) (next_among per block n) in
+            (λ (x : Option Mapping). is_next per block n x) (λ (x : Option Mapping). is_among per block (suc n) x)
+            places.pages (among_more per block n) (next_among per block n) in
             inr (omega arith)
         | inr none ↦ inl record {
-            place = n;
-            small = omega arith;
-            unmapped = λ page m is same.
-                (let fails = count_none (λ (x : Option Mapping). is_next per block n x) places.pages page.0 None
-                  (omega arith) refl in
-                let lies : m.at.0 / per ≡ block = ap (λ a. a / per) same ∙ block_of_place per block n (omega arith) in
-                let rest : m.at.0 % per ≡ n = ap (λ a. a % per) same ∙ rest_of_place per block n (omega arith) in
-                let passes : is_next per block n (mapping_of places page) ≡ true =
-                ap (λ (x : Option Mapping). is_next per block n x) is
-                ∙ and_from (eqb (m.at.0 / per) block) (eqb (m.at.0 % per) n) (eq-eqb (m.at.0 / per) block lies)
-                (eq-eqb (m.at.0 % per) n rest) in
-                both_ways (is_next per block n (mapping_of places page)) fails passes);
-          }
+          place = n;
+          small = omega arith;
+          unmapped = λ page m is same.
+              (let fails = count_none (λ (x : Option Mapping). is_next per block n x) places.pages page.0 None
+              (omega arith) refl in
+              let lies : m.at.0 / per ≡ block = ap (λ a. a / per) same ∙ block_of_place per block n (omega arith) in
+              let rest : m.at.0 % per ≡ n = ap (λ a. a % per) same ∙ rest_of_place per block n (omega arith) in
+              let passes : is_next per block n (mapping_of places page) ≡ true =
+              ap (λ (x : Option Mapping). is_next per block n x) is
+              ∙ and_from (eqb (m.at.0 / per) block) (eqb (m.at.0 % per) n) (eq-eqb (m.at.0 / per) block lies)
+              (eq-eqb (m.at.0 % per) n rest) in
+              both_ways (is_next per block n (mapping_of places page)) fails passes);
+        }
       ]
 ]
 
@@ -103,15 +112,15 @@ stale_of : (per : ℕ) (places : MapView) (victim into : Block) → mapped_in pe
     → HasStale per [] places (job_of victim into)
 stale_of per places victim into fewer = elim (find_unmapped per victim.0 per places (omega arith)) [
   | inl found ↦ record {
-      place = found.place;
-      small = found.small;
-      unmapped = found.unmapped;
-      few = omega arith;
-      fewer = λ below. absurd (omega arith);
-    }
+    place = found.place;
+    small = found.small;
+    unmapped = found.unmapped;
+    few = omega arith;
+    fewer = λ below. absurd (omega arith);
+  }
   | inr counted ↦
       let most = count_apart (λ (x : Option Mapping). is_among per victim.0 per x) (λ (x : Option Mapping). false)
-        (λ (x : Option Mapping). is_in per victim.0 x) places.pages (among_in per victim.0 per) (λ x is. cc) in
+      (λ (x : Option Mapping). is_in per victim.0 x) places.pages (among_in per victim.0 per) (λ x is. cc) in
       absurd (omega arith)
 ]
 

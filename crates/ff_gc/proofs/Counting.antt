@@ -42,9 +42,9 @@ pub count_none : {X : Type 0} (p : X → Bool) (xs : List X) (i : ℕ) (d : X) �
     → p d ≡ false → p (get_or xs i d) ≡ false
 count_none p xs i d none past = elim (cases_lt i (length xs)) [
   | inl within ↦ elim (cases_Bool (p (get_or xs i d))) [
-      | inl passes ↦ absurd (omega (arith, count_some p xs i d within passes))
-      | inr fails ↦ fails
-    ]
+    | inl passes ↦ absurd (omega (arith, count_some p xs i d within passes))
+    | inr fails ↦ fails
+  ]
   | inr beyond ↦ ap p (get_or_past xs i d beyond) ∙ past
 ]
 
@@ -79,16 +79,16 @@ count_apart p q r [] one other = omega arith
 count_apart p q r (x ∷ xs) one other =
     let later = count_apart p q r xs one other in
     elim (cases_Bool (p x)) [
-      | inl hit ↦ 
+      | inl hit ↦
           (let both = one x hit in
           omega (arith, count_hit p x xs hit, count_hit r x xs both.0, count_miss q x xs both.1))
       | inr miss ↦ elim (cases_Bool (q x)) [
-          | inl also ↦ 
-              omega (arith, count_miss p x xs miss, count_hit q x xs also, count_hit r x xs (other x also))
-          | inr neither ↦
-              (let more : count_by r xs ≤ count_by r (x ∷ xs) = count_more r x xs in
-              omega (arith, count_miss p x xs miss, count_miss q x xs neither))
-        ]
+        | inl also ↦
+            omega (arith, count_miss p x xs miss, count_hit q x xs also, count_hit r x xs (other x also))
+        | inr neither ↦
+            (let more : count_by r xs ≤ count_by r (x ∷ xs) = count_more r x xs in
+            omega (arith, count_miss p x xs miss, count_miss q x xs neither))
+      ]
     ]
 
 -- the number is one of these

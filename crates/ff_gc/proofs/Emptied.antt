@@ -8,7 +8,10 @@ use Rattle.ff_flash.specs.Cells.{Cell, cell_at, erased}
 use Rattle.ff_flash.specs.declared.flash.FlashStop.{FlashStop}
 use Rattle.ff_flash.specs.declared.flash.FlashStop.TheVariants.{Failed, Off}
 use Rattle.ff_space.proofs.Changed.{
-  block_at-changed_at, block_at-changed_at_other, each-changed_at, length-changed_at
+  block_at-changed_at,
+  block_at-changed_at_other,
+  each-changed_at,
+  length-changed_at,
 }
 use Rattle.ff_space.specs.Blocks.{erased_block, waiting}
 use Rattle.ff_space.specs.BlockTable.{IsInState, TableView, block_at, changed_at}
@@ -21,7 +24,13 @@ use Rattle.ff_gc.proofs.Keeping.{not_off, operated, ready_changed}
 use Rattle.ff_gc.proofs.PageCopies.{at_phase}
 use Rattle.ff_gc.proofs.Retaining.{retains_erased}
 use Rattle.ff_gc.proofs.Tables.{
-  KeepsPages, changed_in_state, none_after, none_left, only_changed, tabled_changed, within_of
+  KeepsPages,
+  changed_in_state,
+  none_after,
+  none_left,
+  only_changed,
+  tabled_changed,
+  within_of,
 }
 use Rattle.ff_gc.specs.Cells.{HasNoPage}
 use Rattle.ff_gc.specs.Collector.{CollectorView}

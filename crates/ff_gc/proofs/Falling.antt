@@ -1,41 +1,36 @@
 -- Every step leaves fewer steps, and a collection of which no step fails ends with a page to program.
-use Rattle.std.proofs.Common.{
-  ◌≡◌, ◌≢◌, ◌<◌, ◌≤◌, ◌+◌, ◌-◌, ◌*◌, ◌/◌, ◌%◌, ℕ, Bool, true, false, cond, eqb, List, [], ◌∷◌, ◌++◌, length, inl, inr, refl,
-  sym, ap, subst, ◌∙◌, arith
-}
-use Rattle.std.specs.Prelude.{Result, Ok, ◌⊎◌, count_by, if◌then◌else◌}
+use Rattle.std.proofs.Common.{◌≡◌, ◌≢◌, ◌<◌, ◌≤◌, ◌+◌, ◌-◌, ◌*◌, ◌%◌, ℕ, true, false, eqb, List, [], ◌∷◌, ◌++◌, length, inl, inr, refl, sym, ap, subst, ◌∙◌, arith}
+use Rattle.std.specs.Prelude.{Ok, ◌⊎◌}
 use Rattle.std.proofs.lemmas.Bool.{cases_Bool, cases_lt, eqb-true}
 use Rattle.std.proofs.lemmas.List.{length_push}
 use Rattle.std.proofs.lemmas.Nat.{mod_below}
 use Rattle.ff_base.specs.declared.numbers.Block.{Block}
 use Rattle.ff_base.specs.declared.numbers.Ppn.{Ppn}
-use Rattle.ff_flash.specs.declared.flash.FlashStop.{FlashStop}
 use Rattle.ff_space.proofs.Changed.{
-  block_at-after_into, block_at-changed_at, block_at-changed_at_other, count_by-changed_at, count_by-some,
-  length-after_collection, length-changed_at
+  block_at-after_into,
+  block_at-changed_at,
+  block_at-changed_at_other,
+  count_by-changed_at,
+  count_by-some,
+  length-after_collection,
+  length-changed_at,
 }
 use Rattle.ff_space.specs.Blocks.{advanced, after_hold, erased_block, is_erased, state_by_next, waiting}
-use Rattle.ff_space.specs.BlockTable.{
-  IsInState, IsTableSound, TableView, after_collection, block_at, changed_at, entry_at, erased_count
-}
+use Rattle.ff_space.specs.BlockTable.{IsTableSound, TableView, after_collection, block_at, changed_at, erased_count}
 use Rattle.ff_space.specs.declared.block.BlockEntry.{BlockEntry}
-use Rattle.ff_space.specs.declared.block.BlockState.{BlockState}
-use Rattle.ff_space.specs.declared.block.BlockState.TheVariants.{Erased, Full, Open, Waiting}
+use Rattle.ff_space.specs.declared.block.BlockState.TheVariants.{Erased, Full, Open}
 use Rattle.ff_map.specs.PageMap.{MapView}
 use Rattle.ff_map.specs.declared.places.Move.{Move}
 use Rattle.ff_gc.proofs.Begun.{begun_ready, erased_next}
-use Rattle.ff_gc.proofs.Emptied.{emptying_is, emptying_ready, given_up_is}
+use Rattle.ff_gc.proofs.Emptied.{emptying_is}
 use Rattle.ff_gc.proofs.Numbers.{place_is}
 use Rattle.ff_gc.proofs.PageCopies.{at_phase}
 use Rattle.ff_gc.proofs.Switched.{can_end}
 use Rattle.ff_gc.specs.Collector.{CollectorView}
 use Rattle.ff_gc.specs.Left.{IsEnding, IsEndingAt, is_open, left_from, left_in, open_count}
 use Rattle.ff_gc.specs.Originals.{IsAfter, IsNext, move_to, past}
-use Rattle.ff_gc.specs.Running.{HasStale, HasStaleBeside, IsCommitting, IsEmptying, IsReading}
-use Rattle.ff_gc.specs.Steps.{
-  Begins, Commits, ErasesBlock, IsStep, IsStepAt, ProgramsCopy, ProgramsNext, ReadsNext, ReadsPage, SealsCopy,
-  begun_with, empty, emptying, full, given_up, idle, job_of, mapped, none, programs, reads
-}
+use Rattle.ff_gc.specs.Running.{HasStale, HasStaleBeside, IsCommitting, IsEmptying}
+use Rattle.ff_gc.specs.Steps.{Begins, Commits, ErasesBlock, IsStep, IsStepAt, ProgramsNext, ReadsNext, SealsCopy, begun_with, empty, emptying, full, given_up, idle, job_of, mapped, none, programs, reads}
 use Rattle.ff_gc.specs.World.{IsReady, World}
 use Rattle.ff_gc.specs.declared.collector.GcStep.{GcStep}
 use Rattle.ff_gc.specs.declared.collector.GcStep.TheVariants.{Idle as IdleStep, Erased as ErasedStep, Aborted}
@@ -172,16 +167,16 @@ committed_ends w job ready c same =
       | inl first ↦
           let blank : (block_at after job.into.0).state ≡ Erased = state ∙ rw first refl in
           let counted = count_by-some (λ (b : BlockEntry). is_erased b.state) after.blocks job.into.0 within
-            (ap is_erased blank) in
+          (ap is_erased blank) in
           omega arith
       | inr some ↦ elim (cases_Bool (eqb next w.table.per_block)) [
-          | inl last ↦ (let whole = eqb-true next w.table.per_block last in absurd (omega arith))
-          | inr between ↦
-              let opened : (block_at after job.into.0).state ≡ Open = state ∙ rw (some, between) refl in
-              let counted = count_by-some (λ (b : BlockEntry). is_open b.state) after.blocks job.into.0 within
-                (ap is_open opened) in
-              omega arith
-        ]
+        | inl last ↦ (let whole = eqb-true next w.table.per_block last in absurd (omega arith))
+        | inr between ↦
+            let opened : (block_at after job.into.0).state ≡ Open = state ∙ rw (some, between) refl in
+            let counted = count_by-some (λ (b : BlockEntry). is_open b.state) after.blocks job.into.0 within
+            (ap is_open opened) in
+            omega arith
+      ]
     ]
 
 commits_end : (old new : World) (job : Job) (step : GcStep) → IsReady old
@@ -260,9 +255,9 @@ begins_end old new step sound ready is other (empty victim v unmapped r) =
     let blank : (block_at table spare.block).state ≡ Erased =
     ap (λ (b : BlockEntry). b.state) (block_at-changed_at_other old.table victim.0 waiting spare.block apart) ∙ spare.is.state in
     let counted = count_by-some (λ (b : BlockEntry). is_erased b.state) table.blocks spare.block
-      (let lies = spare.is.in_range in let size = e.waits.is.in_range in
-      subst (λ n. spare.block < n) (sym (length-changed_at old.table victim.0 waiting)) lies)
-      (ap is_erased blank) in
+    (let lies = spare.is.in_range in let size = e.waits.is.in_range in
+    subst (λ n. spare.block < n) (sym (length-changed_at old.table victim.0 waiting)) lies)
+    (ap is_erased blank) in
     erases_end (emptying old victim) new victim ErasedStep step e r (omega arith)
 begins_end old new step sound ready is other (mapped victim into v more least r) =
     let stale = v.has.stale in

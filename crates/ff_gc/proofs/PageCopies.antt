@@ -74,7 +74,7 @@ in_hand per moves bytes cells table places job original reading s next is = reco
       let at_from : Ppn = original.from in
       let m : Mapping = record { at = original.from; version = original.version } in
       let places_same = copy.still m
-        (ap (λ p. mapping_of places p) (same_page _ _ same) ∙ next.is) next.from_in in
+      (ap (λ p. mapping_of places p) (same_page _ _ same) ∙ next.is) next.from_in in
       let numbers = ap (λ (p : Ppn). p.0) places_same in
       let behind = copy.behind in let unseen = next.unseen in omega arith);
   next = next.next;
@@ -212,7 +212,7 @@ programming_after : (per : ℕ) (moves : List Move) (bytes : List ℕ) (cells ne
     → IsProgramming per moves bytes new (changed_at table job.into.0 (advanced table.per_block)) places job original
 programming_after per moves bytes cells new table places job original kept p =
     let next : (block_at (changed_at table job.into.0 (advanced table.per_block)) job.into.0).next
-      ≡ (block_at table job.into.0).next + 1 =
+    ≡ (block_at table job.into.0).next + 1 =
     ap (λ (e : BlockEntry). e.next)
     (block_at-changed_at table job.into.0 (advanced table.per_block) p.copying.blocks.held.is.in_range) in
     record {

@@ -157,9 +157,9 @@ pub tabled_sealed : (per : ℕ) (table : TableView) (cells : List Cell) (places 
 tabled_sealed per table cells places at bytes spare cell is size t =
     tabled_cells per table cells (set cells at cell) places size
     (λ a blank.
-        (let apart : a ≢ at = λ same.
-        (let e : erased ≡ closed bytes spare = sym blank ∙ ap (λ k. cell_at cells k) same ∙ is in cc) in
-        cell_at-set_other cells at cell a apart ∙ blank))
+    (let apart : a ≢ at = λ same.
+    (let e : erased ≡ closed bytes spare = sym blank ∙ ap (λ k. cell_at cells k) same ∙ is in cc) in
+    cell_at-set_other cells at cell a apart ∙ blank))
     t
 
 -- the collection after the seal of a copy
@@ -195,7 +195,7 @@ seals_kept old new job original at (Ok step) ready phase r =
     let cells : List Cell = set old.flash.cells at.0 (sealed bytes (spare_in original)) in
     let now : new.flash.cells ≡ cells = seal_worked old.flash.cells at.0 bytes (spare_in original) new.flash.cells closed_at r.cells in
     let retained = retains_seals old.flash.cells new.flash.cells at.0 original.from.0 bytes (spare_in original) old.places
-      (Ok tt) closed_at sealing.programming.hand.cell ready.safe.mapped r.cells in
+    (Ok tt) closed_at sealing.programming.hand.cell ready.safe.mapped r.cells in
     let size : length cells ≡ length old.flash.cells = sym (ap (λ (c : List Cell). length c) now) ∙ retained.size in
     let gc : CollectorView =
     record old.gc { phase = new.gc.phase; moves = old.gc.moves ++ move_to original at ∷ [] } in

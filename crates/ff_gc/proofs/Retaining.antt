@@ -5,11 +5,26 @@ use Rattle.std.proofs.lemmas.Bool.{cases_eq}
 use Rattle.std.proofs.lemmas.List.{get_or-set_other, get_or-set_same}
 use Rattle.ff_base.specs.declared.numbers.PageNo.{PageNo}
 use Rattle.ff_flash.proofs.OperationCells.{
-  erase_elsewhere, erase_length, erase_seals_none, program_elsewhere, program_length, program_seals_none, seal_either
+  erase_elsewhere,
+  erase_length,
+  erase_seals_none,
+  program_elsewhere,
+  program_length,
+  program_seals_none,
+  seal_either,
 }
 use Rattle.ff_flash.proofs.SealedCells.{closed_unsealed, closed_within, erased_unsealed, sealed_apart}
 use Rattle.ff_flash.specs.Cells.{
-  Cell, erased, closed, sealed, cell_at, cell_bytes, Erases, IsUnsealed, Programs, Seals
+  Cell,
+  erased,
+  closed,
+  sealed,
+  cell_at,
+  cell_bytes,
+  Erases,
+  IsUnsealed,
+  Programs,
+  Seals,
 }
 use Rattle.ff_flash.specs.declared.flash.FlashStop.{FlashStop}
 use Rattle.ff_flash.specs.declared.spare.Spare.{Spare}
@@ -27,9 +42,9 @@ pub record IsFrom (cells : List Cell) (bytes : List ℕ) (spare : Spare) : Type 
 pub record Retains (places : MapView) (old new : List Cell) : Type 0 where
   pub size : length new ≡ length old
   pub from : (a : ℕ) (x : List ℕ) (spare : Spare) → cell_at new a ≡ sealed x spare
-    → IsFrom old x spare
+      → IsFrom old x spare
   pub mapped : (page : PageNo) (m : Mapping) → mapping_of places page ≡ Some m
-    → cell_at new m.at.0 ≡ cell_at old m.at.0
+      → cell_at new m.at.0 ≡ cell_at old m.at.0
 
 pub sealed_retained : (pages ops later : ℕ) (places : MapView) (old new : List Cell)
     → Retains places old new → ops ≤ later → AreSealed pages ops old → AreSealed pages later new

@@ -13,8 +13,22 @@ use Rattle.ff_gc.proofs.PageSeals.{seals_kept}
 use Rattle.ff_gc.proofs.Switched.{commits_kept}
 use Rattle.ff_gc.specs.Originals.{IsAllSeen, IsNext}
 use Rattle.ff_gc.specs.Steps.{
-  Begins, IsStep, IsStepAt, ProgramsNext, ReadsNext, begun_with, empty, emptying, full, given_up, idle, job_of, mapped,
-  none, programs, reads
+  Begins,
+  IsStep,
+  IsStepAt,
+  ProgramsNext,
+  ReadsNext,
+  begun_with,
+  empty,
+  emptying,
+  full,
+  given_up,
+  idle,
+  job_of,
+  mapped,
+  none,
+  programs,
+  reads,
 }
 use Rattle.ff_gc.specs.World.{IsReady, Keeps, World}
 use Rattle.ff_gc.specs.declared.collector.GcStep.{GcStep}

@@ -11,7 +11,10 @@ use Rattle.ff_flash.specs.Cells.{Cell, cell_at, cell_bytes, sealed}
 use Rattle.ff_flash.specs.FlashState.{FlashState}
 use Rattle.ff_flash.specs.declared.flash.FlashStop.{FlashStop}
 use Rattle.ff_space.proofs.Changed.{
-  block_at-after_into, block_at-after_other, block_at-after_victim, length-after_collection
+  block_at-after_into,
+  block_at-after_other,
+  block_at-after_victim,
+  length-after_collection,
 }
 use Rattle.ff_space.specs.Blocks.{state_by_next}
 use Rattle.ff_space.specs.BlockTable.{CanEnd, TableView, after_collection, block_at}
@@ -19,7 +22,12 @@ use Rattle.ff_space.specs.declared.block.BlockEntry.{BlockEntry}
 use Rattle.ff_space.specs.declared.block.BlockState.{BlockState}
 use Rattle.ff_space.specs.declared.block.BlockState.TheVariants.{Erased, Full, Held, Open, Waiting}
 use Rattle.ff_map.proofs.Lookups.{
-  mapped_at, moved-none, moved_along, moved_elsewhere, moved_named, version_of-switched
+  mapped_at,
+  moved-none,
+  moved_along,
+  moved_elsewhere,
+  moved_named,
+  version_of-switched,
 }
 use Rattle.ff_map.specs.PageMap.{CanSwitch, IsSwitched, MapView, mapping_of, moved, moved_by}
 use Rattle.ff_map.specs.declared.places.Mapping.{Mapping}
@@ -100,12 +108,12 @@ can_end w job ready c =
     let b = c.reading.copying.blocks in
     let counted = ready.live.tabled.counted job.victim.0 b.full.in_range in
     let most = count_listed (λ (x : Option Mapping). is_in per job.victim.0 x) None (page_numbers w.gc.moves)
-      w.places.pages refl
-      (λ i passes.
-          (let found = in_some per job.victim.0 (get_or w.places.pages i None) passes in
-          let page : PageNo = record { 0 = i } in
-          listed_of w.gc.moves i page refl
-          (c.reading.copying.copies.copied page found.0 found.1 found.2 (c.all_seen page found.0 found.1 found.2)))) in
+    w.places.pages refl
+    (λ i passes.
+    (let found = in_some per job.victim.0 (get_or w.places.pages i None) passes in
+    let page : PageNo = record { 0 = i } in
+    listed_of w.gc.moves i page refl
+    (c.reading.copying.copies.copied page found.0 found.1 found.2 (c.all_seen page found.0 found.1 found.2)))) in
     let numbers = length-map w.gc.moves (λ (one : Move). one.page.0) in
     let room = c.reading.copying.room in
     let empty = b.unmapped in
@@ -302,33 +310,33 @@ switched_counted w job places ready c switched block within =
           ap (λ n. (block_at after n).mapped) victim
           ∙ ap (λ (e : BlockEntry). e.mapped) (block_at-after_victim w.table job.victim.0 job.into.0 can) in
           let none = count_zero (λ (x : Option Mapping). is_in per job.victim.0 x) places.pages None
-            (λ i. counted_victim w job places c switched (record { 0 = i }) _ refl) in
+          (λ i. counted_victim w job places c switched (record { 0 = i }) _ refl) in
           entry ∙ sym none ∙ ap (λ n. mapped_in per places n) (sym victim)
       | inr not_victim ↦ elim (cases_eq block job.into.0) [
-          | inl into ↦
-              let entry : (block_at after block).mapped
-                ≡ (block_at w.table job.into.0).mapped + (block_at w.table job.victim.0).mapped =
-              ap (λ n. (block_at after n).mapped) into
-              ∙ ap (λ (e : BlockEntry). e.mapped) (block_at-after_into w.table job.victim.0 job.into.0 can) in
-              let counted = ready.live.tabled.counted job.victim.0 b.full.in_range in
-              let alike : mapped_in per places job.into.0 ≡ mapped_in per w.places job.victim.0 =
-              count_alike (λ (x : Option Mapping). is_in per job.into.0 x)
-              (λ (x : Option Mapping). is_in per job.victim.0 x) places.pages w.places.pages None switched.pages
-              (λ i. counted_into w job places ready c switched (record { 0 = i }) _ refl) in
-              let empty = b.unmapped in
-              let here : mapped_in per places block ≡ mapped_in per places job.into.0 =
-              ap (λ n. mapped_in per places n) into in
-              omega arith
-          | inr not_into ↦
-              let entry : (block_at after block).mapped ≡ (block_at w.table block).mapped =
-              ap (λ (e : BlockEntry). e.mapped)
-              (block_at-after_other w.table job.victim.0 job.into.0 block not_victim not_into) in
-              let alike : mapped_in per places block ≡ mapped_in per w.places block =
-              count_alike (λ (x : Option Mapping). is_in per block x) (λ (x : Option Mapping). is_in per block x)
-              places.pages w.places.pages None switched.pages
-              (λ i. counted_other w job places c switched block not_victim not_into (record { 0 = i }) _ refl) in
-              entry ∙ ready.live.tabled.counted block within ∙ sym alike
-        ]
+        | inl into ↦
+            let entry : (block_at after block).mapped
+            ≡ (block_at w.table job.into.0).mapped + (block_at w.table job.victim.0).mapped =
+            ap (λ n. (block_at after n).mapped) into
+            ∙ ap (λ (e : BlockEntry). e.mapped) (block_at-after_into w.table job.victim.0 job.into.0 can) in
+            let counted = ready.live.tabled.counted job.victim.0 b.full.in_range in
+            let alike : mapped_in per places job.into.0 ≡ mapped_in per w.places job.victim.0 =
+            count_alike (λ (x : Option Mapping). is_in per job.into.0 x)
+            (λ (x : Option Mapping). is_in per job.victim.0 x) places.pages w.places.pages None switched.pages
+            (λ i. counted_into w job places ready c switched (record { 0 = i }) _ refl) in
+            let empty = b.unmapped in
+            let here : mapped_in per places block ≡ mapped_in per places job.into.0 =
+            ap (λ n. mapped_in per places n) into in
+            omega arith
+        | inr not_into ↦
+            let entry : (block_at after block).mapped ≡ (block_at w.table block).mapped =
+            ap (λ (e : BlockEntry). e.mapped)
+            (block_at-after_other w.table job.victim.0 job.into.0 block not_victim not_into) in
+            let alike : mapped_in per places block ≡ mapped_in per w.places block =
+            count_alike (λ (x : Option Mapping). is_in per block x) (λ (x : Option Mapping). is_in per block x)
+            places.pages w.places.pages None switched.pages
+            (λ i. counted_other w job places c switched block not_victim not_into (record { 0 = i }) _ refl) in
+            entry ∙ ready.live.tabled.counted block within ∙ sym alike
+      ]
     ]
 
 by_next_not : (per next : ℕ) (state : BlockState) → state ≢ Erased → state ≢ Full → state ≢ Open
@@ -336,9 +344,9 @@ by_next_not : (per next : ℕ) (state : BlockState) → state ≢ Erased → sta
 by_next_not per next state not_erased not_full not_open is = elim (cases_Bool (eqb next 0)) [
   | inl first ↦ not_erased (sym (rw first at is))
   | inr some ↦ elim (cases_Bool (eqb next per)) [
-      | inl last ↦ not_full (sym (rw (some, last) at is))
-      | inr between ↦ not_open (sym (rw (some, between) at is))
-    ]
+    | inl last ↦ not_full (sym (rw (some, last) at is))
+    | inr between ↦ not_open (sym (rw (some, between) at is))
+  ]
 ]
 
 switched_tabled : (w : World) (job : Job) (places : MapView) → IsReady w → IsCommittingIn w job
@@ -358,22 +366,22 @@ switched_tabled w job places ready c switched =
                 absurd (state (ap (λ n. (block_at after n).state) victim
                 ∙ ap (λ (e : BlockEntry). e.state) (block_at-after_victim w.table job.victim.0 job.into.0 can)))
             | inr not_victim ↦ elim (cases_eq (a / per) job.into.0) [
-                | inl into ↦
-                    let entry : (block_at after (a / per)).next ≡ (block_at w.table (a / per)).next =
-                    ap (λ n. (block_at after n).next) into
-                    ∙ ap (λ (e : BlockEntry). e.next) (block_at-after_into w.table job.victim.0 job.into.0 can)
-                    ∙ ap (λ n. (block_at w.table n).next) (sym into) in
-                    let held : (block_at w.table (a / per)).state ≡ Held =
-                    ap (λ n. (block_at w.table n).state) into ∙ b.held.is.state in
-                    ready.live.tabled.blank a lies (λ waits. (let e : Held ≡ Waiting = sym held ∙ waits in cc))
-                    (omega arith)
-                | inr not_into ↦
-                    let entry =
-                    block_at-after_other w.table job.victim.0 job.into.0 (a / per) not_victim not_into in
-                    let same = ap (λ (e : BlockEntry). e.next) entry in
-                    ready.live.tabled.blank a lies
-                    (λ waits. state (ap (λ (e : BlockEntry). e.state) entry ∙ waits)) (omega arith)
-              ]
+              | inl into ↦
+                  let entry : (block_at after (a / per)).next ≡ (block_at w.table (a / per)).next =
+                  ap (λ n. (block_at after n).next) into
+                  ∙ ap (λ (e : BlockEntry). e.next) (block_at-after_into w.table job.victim.0 job.into.0 can)
+                  ∙ ap (λ n. (block_at w.table n).next) (sym into) in
+                  let held : (block_at w.table (a / per)).state ≡ Held =
+                  ap (λ n. (block_at w.table n).state) into ∙ b.held.is.state in
+                  ready.live.tabled.blank a lies (λ waits. (let e : Held ≡ Waiting = sym held ∙ waits in cc))
+                  (omega arith)
+              | inr not_into ↦
+                  let entry =
+                  block_at-after_other w.table job.victim.0 job.into.0 (a / per) not_victim not_into in
+                  let same = ap (λ (e : BlockEntry). e.next) entry in
+                  ready.live.tabled.blank a lies
+                  (λ waits. state (ap (λ (e : BlockEntry). e.state) entry ∙ waits)) (omega arith)
+            ]
           ]);
     }
 
@@ -386,7 +394,7 @@ switched_emptying w job ready c =
     let size = length-after_collection w.table job.victim.0 job.into.0 in
     let victim = block_at-after_victim w.table job.victim.0 job.into.0 can in
     let into : (block_at after job.into.0).state
-      ≡ state_by_next w.table.per_block (block_at w.table job.into.0).next =
+    ≡ state_by_next w.table.per_block (block_at w.table job.into.0).next =
     ap (λ (e : BlockEntry). e.state) (block_at-after_into w.table job.victim.0 job.into.0 can) in
     let next = (block_at w.table job.into.0).next in
     record {
@@ -398,16 +406,16 @@ switched_emptying w job ready c =
         only = λ other is. elim (cases_eq other job.victim.0) [
           | inl same ↦ same
           | inr not_victim ↦ elim (cases_eq other job.into.0) [
-              | inl same ↦
-                  absurd (by_next_not w.table.per_block next Waiting (λ e. cc) (λ e. cc) (λ e. cc)
-                  (sym into ∙ ap (λ n. (block_at after n).state) (sym same) ∙ is.state))
-              | inr not_into ↦
-                  let entry = block_at-after_other w.table job.victim.0 job.into.0 other not_victim not_into in
-                  absurd (b.none_waits other record {
-                    in_range = (let within = is.in_range in omega arith);
-                    state = sym (ap (λ (e : BlockEntry). e.state) entry) ∙ is.state;
-                  })
-            ]
+            | inl same ↦
+                absurd (by_next_not w.table.per_block next Waiting (λ e. cc) (λ e. cc) (λ e. cc)
+                (sym into ∙ ap (λ n. (block_at after n).state) (sym same) ∙ is.state))
+            | inr not_into ↦
+                let entry = block_at-after_other w.table job.victim.0 job.into.0 other not_victim not_into in
+                absurd (b.none_waits other record {
+                  in_range = (let within = is.in_range in omega arith);
+                  state = sym (ap (λ (e : BlockEntry). e.state) entry) ∙ is.state;
+                })
+          ]
         ];
       };
       unmapped = ap (λ (e : BlockEntry). e.mapped) victim;
@@ -417,16 +425,16 @@ switched_emptying w job ready c =
             sym (ap (λ (e : BlockEntry). e.state) victim) ∙ ap (λ n. (block_at after n).state) (sym same) ∙ is.state in
             absurd (cc)
         | inr not_victim ↦ elim (cases_eq other job.into.0) [
-            | inl same ↦
-                by_next_not w.table.per_block next Held (λ e. cc) (λ e. cc) (λ e. cc)
-                (sym into ∙ ap (λ n. (block_at after n).state) (sym same) ∙ is.state)
-            | inr not_into ↦
-                let entry = block_at-after_other w.table job.victim.0 job.into.0 other not_victim not_into in
-                not_into (b.held.only other record {
-                  in_range = (let within = is.in_range in omega arith);
-                  state = sym (ap (λ (e : BlockEntry). e.state) entry) ∙ is.state;
-                })
-          ]
+          | inl same ↦
+              by_next_not w.table.per_block next Held (λ e. cc) (λ e. cc) (λ e. cc)
+              (sym into ∙ ap (λ n. (block_at after n).state) (sym same) ∙ is.state)
+          | inr not_into ↦
+              let entry = block_at-after_other w.table job.victim.0 job.into.0 other not_victim not_into in
+              not_into (b.held.only other record {
+                in_range = (let within = is.in_range in omega arith);
+                state = sym (ap (λ (e : BlockEntry). e.state) entry) ∙ is.state;
+              })
+        ]
       ];
     }
 

@@ -3,7 +3,10 @@ use Rattle.std.proofs.Common.{◌≡◌, ◌≢◌, ◌<◌, ◌≤◌, ◌+◌,
 use Rattle.std.proofs.lemmas.Bool.{cases_eq}
 use Rattle.ff_flash.specs.Cells.{Cell, cell_at, erased}
 use Rattle.ff_space.proofs.Changed.{
-  block_at-changed_at, block_at-changed_at_other, each-changed_at, length-changed_at
+  block_at-changed_at,
+  block_at-changed_at_other,
+  each-changed_at,
+  length-changed_at,
 }
 use Rattle.ff_space.specs.BlockTable.{IsInState, TableView, block_at, changed_at}
 use Rattle.ff_space.specs.Choices.{NoBlock}

@@ -1,17 +1,12 @@
 -- A step makes one operation of the flash, or none.
-use Rattle.std.proofs.Common.{◌≡◌, ◌+◌, ℕ, ap, subst, sym, refl, arith, Some, None}
-use Rattle.std.specs.Prelude.{Result, Ok}
+use Rattle.std.proofs.Common.{◌≡◌, ◌+◌, ap, refl, arith}
+use Rattle.std.specs.Prelude.{Result}
 use Rattle.ff_flash.specs.Injected.{stop_of}
 use Rattle.ff_flash.specs.declared.flash.FlashStop.{FlashStop}
-use Rattle.ff_base.specs.declared.numbers.Block.{Block}
 use Rattle.ff_gc.specs.Counts.{begun, total_of}
-use Rattle.ff_gc.specs.Steps.{
-  Begins, Commits, ErasesBlock, IsStep, IsStepAt, Makes, ProgramsNext, ReadsNext, Takes, empty, full, idle, made,
-  mapped, none, programs, reads, rested
-}
+use Rattle.ff_gc.specs.Steps.{Begins, Commits, IsStep, IsStepAt, ProgramsNext, ReadsNext, Takes, empty, full, idle, made, mapped, none, programs, reads, rested}
 use Rattle.ff_gc.specs.World.{World}
 use Rattle.ff_gc.specs.declared.collector.GcStep.{GcStep}
-use Rattle.ff_gc.specs.declared.collector.GcStep.TheVariants.{Erased, Aborted}
 use Rattle.ff_gc.specs.declared.counts.Counts.{Counts}
 use Rattle.ff_gc.specs.declared.counts.OperationKind.{OperationKind}
 use Rattle.ff_gc.specs.declared.counts.OperationKind.TheVariants.{Erase, Program, Read, Seal}

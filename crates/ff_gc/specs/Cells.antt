@@ -11,15 +11,15 @@ use Rattle.ff_map.specs.declared.places.Mapping.{Mapping}
 -- that were made
 pub record AreSealed (pages operations : ℕ) (cells : List Cell) : Type 0 where
   pub same : (a b : ℕ) (x y : List ℕ) (spare : Spare)
-    → cell_at cells a ≡ sealed x spare → cell_at cells b ≡ sealed y spare → x ≡ y
+      → cell_at cells a ≡ sealed x spare → cell_at cells b ≡ sealed y spare → x ≡ y
   pub page : (a : ℕ) (x : List ℕ) (spare : Spare)
-    → cell_at cells a ≡ sealed x spare → spare.page.0 < pages
+      → cell_at cells a ≡ sealed x spare → spare.page.0 < pages
   pub least : (a : ℕ) (x : List ℕ) (spare : Spare)
-    → cell_at cells a ≡ sealed x spare → 1 ≤ spare.version
+      → cell_at cells a ≡ sealed x spare → 1 ≤ spare.version
   pub most : (a : ℕ) (x : List ℕ) (spare : Spare)
-    → cell_at cells a ≡ sealed x spare → spare.version ≤ operations
+      → cell_at cells a ≡ sealed x spare → spare.version ≤ operations
   pub full : (a : ℕ) (x : List ℕ) (spare : Spare)
-    → cell_at cells a ≡ sealed x spare → length x ≡ PAGE_BYTES
+      → cell_at cells a ≡ sealed x spare → length x ≡ PAGE_BYTES
 
 -- a page and its spare, programmed at a place, which the map may not know yet
 pub record Unmapped : Type 0 where
@@ -41,12 +41,12 @@ pub record HasNewer (places : MapView) (spare : Spare) : Type 0 where
 -- to a version that isn't older, or is the one that the map may not know
 pub record AreMapped (unmapped : Option Unmapped) (cells : List Cell) (places : MapView) : Type 0 where
   pub placed : (page : PageNo) (m : Mapping) → mapping_of places page ≡ Some m
-    → cell_at cells m.at.0
-    ≡ sealed (cell_bytes (cell_at cells m.at.0)) (record { page = page; version = m.version })
+      → cell_at cells m.at.0
+      ≡ sealed (cell_bytes (cell_at cells m.at.0)) (record { page = page; version = m.version })
   pub known : (a : ℕ) (x : List ℕ) (spare : Spare) → cell_at cells a ≡ sealed x spare
-    → HasNewer places spare ⊎ IsUnmapped unmapped a spare
+      → HasNewer places spare ⊎ IsUnmapped unmapped a spare
   pub next : (a : ℕ) (x : List ℕ) (spare : Spare) → cell_at cells a ≡ sealed x spare
-    → spare.version < places.next_version
+      → spare.version < places.next_version
 
 -- no page is mapped in the block
 abbrev pub HasNoPage : ℕ → MapView → ℕ → Type 0

@@ -38,17 +38,17 @@ IsPassed per_block places job place = (page : PageNo) (m : Mapping)
 pub record IsThere (places : MapView) (from : Ppn) (original : Original) : Type 0 where
   pub place : original.from ≡ from
   pub is : mapping_of places original.page
-    ≡ Some (record { at = from; version = original.version })
+      ≡ Some (record { at = from; version = original.version })
 
 -- the first page that is mapped in the victim behind what is seen
 pub record IsNext (per_block : ℕ) (places : MapView) (job : Job) (original : Original) : Type 0 where
   pub is : mapping_of places original.page
-    ≡ Some (record { at = original.from; version = original.version })
+      ≡ Some (record { at = original.from; version = original.version })
   pub from_in : original.from.0 / per_block ≡ job.victim.0
   pub unseen : job.victim.0 * per_block + job.seen ≤ original.from.0
   pub next : (page : PageNo) (m : Mapping) → mapping_of places page ≡ Some m
-    → m.at.0 / per_block ≡ job.victim.0 → job.victim.0 * per_block + job.seen ≤ m.at.0
-    → original.from.0 ≤ m.at.0
+      → m.at.0 / per_block ≡ job.victim.0 → job.victim.0 * per_block + job.seen ≤ m.at.0
+      → original.from.0 ≤ m.at.0
 
 -- what is next in a collection that copies: to read, where a page is left, else to commit
 abbrev pub IsAfter : ℕ → MapView → Job → Phase → Type 0

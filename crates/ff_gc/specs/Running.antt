@@ -33,9 +33,9 @@ mapped_in per_block places block = count_by (λ m. is_in per_block block m) plac
 pub record IsTabled (per_block : ℕ) (table : TableView) (cells : List Cell) (places : MapView)
     : Type 0 where
   pub counted : (block : ℕ) → block < length table.blocks
-    → (block_at table block).mapped ≡ mapped_in per_block places block
+      → (block_at table block).mapped ≡ mapped_in per_block places block
   pub blank : (a : ℕ) → a < length cells → (block_at table (a / per_block)).state ≢ Waiting
-    → (block_at table (a / per_block)).next ≤ a % per_block → cell_at cells a ≡ erased
+      → (block_at table (a / per_block)).next ≤ a % per_block → cell_at cells a ≡ erased
 
 -- the block alone is in this state
 pub record IsOnlyBlock (table : TableView) (state : BlockState) (block : ℕ) : Type 0 where
@@ -80,8 +80,8 @@ pub record AreCopies (per_block : ℕ) (moves : List Move) (cells : List Cell) (
   pub pages_apart : AllPairs (λ one other. one.page.0 ≢ other.page.0) moves
   pub places_apart : AllPairs (λ one other. one.to.0 ≢ other.to.0) moves
   pub copied : (page : PageNo) (m : Mapping) → mapping_of places page ≡ Some m
-    → m.at.0 / per_block ≡ job.victim.0 → m.at.0 < job.victim.0 * per_block + job.seen
-    → Any (λ one. one.page ≡ page) moves
+      → m.at.0 / per_block ≡ job.victim.0 → m.at.0 < job.victim.0 * per_block + job.seen
+      → Any (λ one. one.page ≡ page) moves
 
 -- a collection that copies
 pub record IsCopying (per_block : ℕ) (moves : List Move) (cells : List Cell) (table : TableView)
@@ -97,7 +97,7 @@ pub record HasStale (per_block : ℕ) (moves : List Move) (places : MapView) (jo
   pub place : ℕ
   pub small : place < per_block
   pub unmapped : (page : PageNo) (m : Mapping) → mapping_of places page ≡ Some m
-    → m.at.0 ≢ job.victim.0 * per_block + place
+      → m.at.0 ≢ job.victim.0 * per_block + place
   pub few : length moves ≤ job.seen
   pub fewer : place < job.seen → length moves < job.seen
 
@@ -107,7 +107,7 @@ pub record HasStaleBeside (per_block : ℕ) (moves : List Move) (places : MapVie
   pub place : ℕ
   pub small : place < per_block
   pub unmapped : (page : PageNo) (m : Mapping) → mapping_of places page ≡ Some m
-    → m.at.0 ≢ job.victim.0 * per_block + place
+      → m.at.0 ≢ job.victim.0 * per_block + place
   pub few : length moves ≤ job.seen
   pub fewer : place < job.seen → length moves < job.seen
   pub fresh : from.0 ≢ job.victim.0 * per_block + place
@@ -121,8 +121,8 @@ pub record IsInHand (per_block : ℕ) (moves : List Move) (bytes : List ℕ) (ce
   pub still : IsStill per_block places job.victim.0 original.page original.from
   pub new : All (λ one. one.page.0 ≢ original.page.0) moves
   pub next : (page : PageNo) (m : Mapping) → mapping_of places page ≡ Some m
-    → m.at.0 / per_block ≡ job.victim.0 → job.victim.0 * per_block + job.seen ≤ m.at.0
-    → original.from.0 ≤ m.at.0
+      → m.at.0 / per_block ≡ job.victim.0 → job.victim.0 * per_block + job.seen ≤ m.at.0
+      → original.from.0 ≤ m.at.0
 
 -- the programmed copy of the page in hand, which is to be sealed
 pub record IsProgrammedCopy (per_block : ℕ) (moves : List Move) (bytes : List ℕ) (cells : List Cell)

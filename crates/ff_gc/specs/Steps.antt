@@ -123,7 +123,7 @@ pub record ErasesBlock (old : World) (block : Block) (ends : GcStep) (result : R
 -- the next page of the victim that is still mapped there is read. Where there is none, as in Commit
 pub data ReadsNext (old : World) (job : Job) (result : Result GcStep FlashStop) (new : World) : Type 0 where
   reads : (original : Original) → IsNext old.gc.per_block old.places job original
-    → ReadsPage old job original result new → ReadsNext old job result new
+      → ReadsPage old job original result new → ReadsNext old job result new
   none : IsAllSeen old.gc.per_block old.places job → Commits old job result new → ReadsNext old job result new
 
 -- the copies are forgotten, and their block waits to be erased
@@ -133,9 +133,9 @@ given_up w job = record w { gc = record w.gc { phase = Aborting job.into; moves 
 -- the copy is programmed where the destination has a page left. Else the collection is given up
 pub data ProgramsNext (old : World) (job : Job) (original : Original) (result : Result GcStep FlashStop) (new : World) : Type 0 where
   programs : (block_at old.table job.into.0).next < old.gc.per_block → ProgramsCopy old job original result new
-    → ProgramsNext old job original result new
+      → ProgramsNext old job original result new
   full : old.gc.per_block ≤ (block_at old.table job.into.0).next → ErasesBlock (given_up old job) job.into Aborted result new
-    → ProgramsNext old job original result new
+      → ProgramsNext old job original result new
 
 -- a block without mapped pages waits to be erased
 abbrev pub emptying : World → Block → World
@@ -153,10 +153,10 @@ begun_with w job =
 pub data Begins (old : World) (result : Result GcStep FlashStop) (new : World) : Type 0 where
   idle : IsAllMapped old.table → result ≡ Ok IdleStep → new ≡ old → Begins old result new
   empty : (victim : Block) → IsVictimBlock old.table.per_block old.table.blocks victim.0 → (block_at old.table victim.0).mapped ≡ 0
-    → ErasesBlock (emptying old victim) victim Erased result new → Begins old result new
+      → ErasesBlock (emptying old victim) victim Erased result new → Begins old result new
   mapped : (victim into : Block) → IsVictimBlock old.table.per_block old.table.blocks victim.0 → 0 < (block_at old.table victim.0).mapped
-    → IsLeast (IsInState old.table.blocks ErasedBlock) into.0 → ReadsNext (begun_with old (job_of victim into)) (job_of victim into) result new
-    → Begins old result new
+      → IsLeast (IsInState old.table.blocks ErasedBlock) into.0 → ReadsNext (begun_with old (job_of victim into)) (job_of victim into) result new
+      → Begins old result new
 
 -- the step by what the collector does next
 abbrev pub IsStepAt : Phase → World → Result GcStep FlashStop → World → Type 0

@@ -100,13 +100,13 @@ impl Collector {
         requires counted { total_of counts.old < 2 ^ 63 }
         ensures off { (F.state flash.old).on ≡ false → (result ≡ Err Off)
             × (world_of self.new (F.state flash.new) space.new map.new counts.new
-                ≡ world_of self.old (F.state flash.old) space.old map.old counts.old) }
+            ≡ world_of self.old (F.state flash.old) space.old map.old counts.old) }
         ensures step { (F.state flash.old).on ≡ true
             → IsStep (world_of self.old (F.state flash.old) space.old map.old counts.old) result
-                (world_of self.new (F.state flash.new) space.new map.new counts.new) }
+            (world_of self.new (F.state flash.new) space.new map.new counts.new) }
         ensures kept { (F.state flash.old).on ≡ true
             → Keeps (world_of self.old (F.state flash.old) space.old map.old counts.old)
-                (world_of self.new (F.state flash.new) space.new map.new counts.new) }
+            (world_of self.new (F.state flash.new) space.new map.new counts.new) }
     {
         if !flash.is_on() {
             return Err(FlashStop::Off);

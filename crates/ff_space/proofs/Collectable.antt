@@ -1,15 +1,10 @@
 -- How many blocks can be collected.
-use Rattle.std.proofs.Common.{
-  ◌≡◌, ◌<◌, ◌≤◌, ℕ, zero, suc, ◌+◌, Bool, true, false, ltb, List, [], ◌∷◌, length, inl, inr, refl, sym, ap, ◌∙◌,
-  arith
-}
-use Rattle.std.specs.Prelude.{count_by, ◌&&◌}
+use Rattle.std.proofs.Common.{◌≡◌, ◌<◌, ℕ, suc, Bool, true, ltb, List, [], ◌∷◌, length, inl, inr, refl, ap, arith}
+use Rattle.std.specs.Prelude.{count_by}
 use Rattle.std.proofs.lemmas.Bool.{cases_Bool, cases_lt, and_parts, lt-ltb, ltb-true}
 use Rattle.ff_space.proofs.Changed.{count_by-some}
-use Rattle.ff_space.specs.Blocks.{erased_block, is_collectable, is_full, waiting}
-use Rattle.ff_space.specs.BlockTable.{
-  IsInState, IsTableSound, TableView, block_at, collectable_count, entry_at
-}
+use Rattle.ff_space.specs.Blocks.{is_collectable, is_full}
+use Rattle.ff_space.specs.BlockTable.{IsTableSound, TableView, block_at, collectable_count, entry_at}
 use Rattle.ff_space.specs.Choices.{IsAllMapped}
 use Rattle.ff_space.specs.declared.block.BlockEntry.{BlockEntry}
 use Rattle.ff_space.specs.declared.block.BlockState.{BlockState}
@@ -57,7 +52,7 @@ pub some_counted : (table : TableView) → 0 < collectable_count table.per_block
 some_counted table some all =
     let found = counted (is_collectable table.per_block) table.blocks some in
     let parts = and_parts (is_full (block_at table found.block).state)
-      (ltb (block_at table found.block).mapped table.per_block) found.passes in
+    (ltb (block_at table found.block).mapped table.per_block) found.passes in
     let full = full_of (block_at table found.block).state parts.0 in
     let less = ltb-true (block_at table found.block).mapped table.per_block parts.1 in
     let whole = all found.block (record { in_range = found.within; state = full }) in

@@ -1,11 +1,8 @@
 -- A collection goes on where a block changes that is no part of it.
-use Rattle.std.proofs.Common.{
-  ◌≡◌, ◌≢◌, ◌<◌, ◌≤◌, ◌+◌, ◌*◌, ◌/◌, ◌%◌, ℕ, List, length, Option, Some, inl, inr, refl, sym, ap, subst, ◌∙◌, arith
-}
+use Rattle.std.proofs.Common.{◌≡◌, ◌≢◌, ◌<◌, ◌≤◌, ◌+◌, ◌*◌, ◌/◌, ℕ, List, length, Some, inl, inr, refl, sym, ap, ◌∙◌, arith}
 use Rattle.std.proofs.lemmas.Bool.{cases_eq}
 use Rattle.ff_base.specs.declared.numbers.Block.{Block}
 use Rattle.ff_base.specs.declared.numbers.PageNo.{PageNo}
-use Rattle.ff_base.specs.declared.numbers.Ppn.{Ppn}
 use Rattle.ff_flash.specs.Cells.{Cell, cell_at, closed}
 use Rattle.ff_flash.specs.declared.spare.Spare.{Spare}
 use Rattle.ff_space.specs.BlockTable.{IsInState, TableView, block_at}
@@ -18,10 +15,7 @@ use Rattle.ff_map.specs.declared.places.Move.{Move}
 use Rattle.ff_gc.proofs.Numbers.{block_of_place}
 use Rattle.ff_gc.proofs.PageCopies.{KeepsSealed}
 use Rattle.ff_gc.specs.Collector.{CollectorView}
-use Rattle.ff_gc.specs.Running.{
-  AreBlocks, AreCopies, HasBlock, HasStale, HasStaleBeside, IsAt, IsCopying, IsEmptying, IsIdle, IsInHand, IsOnlyBlock,
-  IsProgramming, IsReading, IsStill
-}
+use Rattle.ff_gc.specs.Running.{HasBlock, HasStale, IsAt, IsCopying, IsEmptying, IsOnlyBlock, IsProgramming}
 use Rattle.ff_gc.specs.declared.phase.Job.{Job}
 use Rattle.ff_gc.specs.declared.phase.Original.{Original}
 use Rattle.ff_gc.specs.declared.phase.Phase.{Phase}
@@ -42,9 +36,9 @@ pub record IsAside (per block : ℕ) (table table2 : TableView) (cells cells2 : 
   pub new_waiting : (block_at table2 block).state ≢ Waiting
   pub kept : KeepsSealed cells cells2
   pub closed_kept : (a : ℕ) (x : List ℕ) (spare : Spare) → a / per ≢ block → cell_at cells a ≡ closed x spare
-    → cell_at cells2 a ≡ closed x spare
+      → cell_at cells2 a ≡ closed x spare
   pub mapped : (page : PageNo) (m : Mapping) → mapping_of places2 page ≡ Some m → m.at.0 / per ≢ block
-    → mapping_of places page ≡ Some m
+      → mapping_of places page ≡ Some m
 
 -- states of the other blocks
 state_aside : (per block : ℕ) (table table2 : TableView) (cells cells2 : List Cell) (places places2 : MapView)

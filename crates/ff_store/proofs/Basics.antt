@@ -1,23 +1,19 @@
 -- What every call's proof needs of a store.
-use Rattle.std.proofs.Common.{
-  ◌≡◌, ◌≢◌, ◌<◌, ◌≤◌, ◌+◌, ◌*◌, ◌/◌, ℕ, Bool, true, false, cond, List, length, get_or, Option, None, Some, inl, inr, refl, sym, ap, subst, ◌∙◌,
-  arith
-}
+use Rattle.std.proofs.Common.{◌≡◌, ◌≤◌, ◌+◌, ℕ, Bool, true, false, cond, List, length, get_or, Option, None, Some, refl, sym, ap, subst, ◌∙◌, arith}
 use Rattle.std.specs.Prelude.{◌&&◌, Err, Ok, Result, is_some, option_map}
 use Rattle.std.proofs.lemmas.Bool.{and_parts}
 use Rattle.std.proofs.lemmas.Option.{none-some}
-use Rattle.ff_flash.proofs.Operated.{operations_rise, was_on}
+use Rattle.ff_flash.proofs.Operated.{operations_rise}
 use Rattle.ff_flash.specs.Cells.{Cell, ReadsBytes, cell_at}
 use Rattle.ff_flash.specs.FlashState.{FlashState, Operates, powered_off}
 use Rattle.ff_flash.specs.Injected.{stop_of}
 use Rattle.ff_flash.specs.declared.flash.FlashStop.{FlashStop}
 use Rattle.ff_space.specs.BlockTable.{IsTableSound}
-use Rattle.ff_map.specs.PageMap.{MapView}
 use Rattle.ff_map.specs.declared.places.Mapping.{Mapping}
 use Rattle.ff_gc.proofs.Counting.{count_alike}
 use Rattle.ff_gc.proofs.Stepping.{steps_kept}
 use Rattle.ff_gc.proofs.Takings.{takes_of, total_begun}
-use Rattle.ff_gc.specs.Cells.{AreMapped, AreSealed, IsSafe, Unmapped}
+use Rattle.ff_gc.specs.Cells.{AreSealed, IsSafe}
 use Rattle.ff_gc.specs.Collector.{is_busy}
 use Rattle.ff_gc.specs.Counts.{total_of}
 use Rattle.ff_gc.specs.Steps.{IsStep, Makes, Takes, made, rested}
@@ -25,10 +21,8 @@ use Rattle.ff_gc.specs.World.{Fits, IsReady, Keeps, World}
 use Rattle.ff_gc.specs.declared.collector.GcStep.{GcStep}
 use Rattle.ff_gc.specs.declared.counts.Counts.{Counts}
 use Rattle.ff_gc.specs.declared.counts.OperationKind.{OperationKind}
-use Rattle.ff_store.specs.Calls.{Collects, IsCall, SameBytes, SameStore}
-use Rattle.ff_store.specs.PageStore.{
-  IsAlways, IsElsewhere, IsPending, IsRunning, IsStoreSound, IsWaiting, PageStoreView, pages_with, unmapped_of
-}
+use Rattle.ff_store.specs.Calls.{Collects, IsCall, SameBytes}
+use Rattle.ff_store.specs.PageStore.{IsElsewhere, IsPending, IsRunning, IsStoreSound, IsWaiting, PageStoreView}
 use Rattle.ff_store.specs.Pages.{page_capacity, mapped_count}
 use Rattle.ff_store.specs.declared.pending.Pending.{Pending}
 
@@ -106,9 +100,9 @@ count_kept old new keeps =
     count_alike (λ (m : Option Mapping). is_some m) (λ (m : Option Mapping). is_some m) new.places.pages old.places.pages
     None keeps.same.pages
     (λ i.
-        some_version (get_or new.places.pages i None)
-        ∙ ap (λ (v : Option ℕ). is_some v) (keeps.same.versions (record { 0 = i }))
-        ∙ sym (some_version (get_or old.places.pages i None)))
+    some_version (get_or new.places.pages i None)
+    ∙ ap (λ (v : Option ℕ). is_some v) (keeps.same.versions (record { 0 = i }))
+    ∙ sym (some_version (get_or old.places.pages i None)))
 
 -- a step of the collector
 pub collected_sound : (s : PageStoreView) (new : World) (owed : Bool) (step : Result GcStep FlashStop)

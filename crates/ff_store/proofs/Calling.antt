@@ -1,11 +1,7 @@
 -- What each call leaves, by what it made.
-use Rattle.std.proofs.Common.{
-  ◌≡◌, ◌≢◌, ◌<◌, ◌≤◌, ◌+◌, ◌-◌, ◌*◌, ◌/◌, ℕ, Bool, true, false, List, length, Option, None, Some, inl, inr, refl, sym, ap,
-  subst, ◌∙◌, arith
-}
+use Rattle.std.proofs.Common.{◌≡◌, ◌≢◌, ◌<◌, ◌≤◌, ◌/◌, ℕ, true, false, List, length, Option, None, Some, inl, inr, refl, sym, ap, subst, ◌∙◌, arith}
 use Rattle.std.specs.Prelude.{◌⊎◌, Result, Ok, Err, IfErr, IfOk}
 use Rattle.std.proofs.lemmas.List.{length-set}
-use Rattle.std.proofs.lemmas.Option.{none-some}
 use Rattle.ff_base.specs.declared.numbers.PageNo.{PageNo}
 use Rattle.ff_base.specs.declared.numbers.Ppn.{Ppn}
 use Rattle.ff_flash.proofs.OperationCells.{program_worked, seal_elsewhere, seal_worked}
@@ -16,20 +12,17 @@ use Rattle.ff_flash.specs.declared.flash.FlashStop.{FlashStop}
 use Rattle.ff_flash.specs.declared.flash.FlashStop.TheVariants.{Failed, Off}
 use Rattle.ff_space.proofs.Changed.{length-changed_at}
 use Rattle.ff_space.specs.Blocks.{advanced}
-use Rattle.ff_space.specs.BlockTable.{IsInState, IsTableSound, TableView}
+use Rattle.ff_space.specs.BlockTable.{IsTableSound, TableView}
 use Rattle.ff_space.specs.Choices.{IsAllMapped, IsNoPlace}
 use Rattle.ff_map.proofs.Lookups.{mapped_at, mapping_of-with_mapping, mapping_of-with_mapping_other}
-use Rattle.ff_map.specs.PageMap.{MapView, drawn_map, mapping_of, place_of, version_of}
+use Rattle.ff_map.specs.PageMap.{MapView, mapping_of, place_of, version_of}
 use Rattle.ff_map.specs.declared.places.Mapping.{Mapping}
 use Rattle.ff_gc.proofs.Retaining.{bytes_retained, cell_at-set, mapped_apart, retains_programmed}
 use Rattle.ff_gc.proofs.Stepping.{steps_kept}
 use Rattle.ff_gc.specs.Collector.{is_busy}
 use Rattle.ff_gc.specs.Running.{IsAt}
-use Rattle.ff_gc.specs.Steps.{
-  Begins, IsStep, IsStepAt, Makes, ProgramsNext, ReadsNext, empty, full, idle, made, mapped, none, operation_of, programs,
-  reads
-}
-use Rattle.ff_gc.specs.World.{World, mapped_bytes, page_bytes}
+use Rattle.ff_gc.specs.Steps.{IsStep, IsStepAt, empty, full, idle, made, mapped, none, operation_of, programs, reads}
+use Rattle.ff_gc.specs.World.{World, mapped_bytes}
 use Rattle.ff_gc.specs.declared.collector.GcStep.{GcStep}
 use Rattle.ff_gc.specs.declared.collector.GcStep.TheVariants.{Idle as IdleStep, Read as ReadStep, Programmed as ProgrammedStep, Sealed as SealedStep, Committed, Erased, Aborted}
 use Rattle.ff_gc.specs.declared.counts.OperationKind.TheVariants.{Program, Read, Seal}
@@ -38,20 +31,16 @@ use Rattle.ff_gc.specs.declared.phase.Phase.TheVariants.{Idle, Programming, Read
 use Rattle.ff_store.proofs.Basics.{collected_call, collected_same, ready_in}
 use Rattle.ff_store.proofs.Flushing.{target_of}
 use Rattle.ff_store.proofs.Pigeons.{has_victim}
-use Rattle.ff_store.proofs.Remaining.{idle_of, left_falls}
+use Rattle.ff_store.proofs.Remaining.{left_falls}
 use Rattle.ff_store.proofs.Settled.{old_within}
-use Rattle.ff_store.proofs.Settling.{mapped_not_waiting, pending_in, placed_counted}
-use Rattle.ff_store.specs.Calls.{
-  Collects, CollectsFor, CollectsNow, Fetches, Flushes, IsCall, IsPlaced, IsProgrammed, MatchSealed, ProgramsPage, SameBytes, SealsPage,
-  collected, collects_flush, new_mapping, opened_block, pending_at, places_after_seal, programs_flush, table_after_flush,
-  table_after_seal
-}
+use Rattle.ff_store.proofs.Settling.{pending_in, placed_counted}
+use Rattle.ff_store.specs.Calls.{CollectsFor, CollectsNow, Fetches, Flushes, IsCall, IsPlaced, IsProgrammed, MatchSealed, ProgramsPage, SameBytes, SealsPage, collected, collects_flush, new_mapping, opened_block, pending_at, places_after_seal, programs_flush, table_after_flush, table_after_seal}
 use Rattle.ff_store.specs.Left.{left_of}
 use Rattle.ff_store.specs.PageStore.{IsStoreSound, PageStoreView, spare_of}
 use Rattle.ff_store.specs.Pages.{mapped_count, mapped_with, page_capacity}
 use Rattle.ff_store.specs.declared.pending.Pending.{Pending}
 use Rattle.ff_store.specs.declared.store.FlushStep.{FlushStep}
-use Rattle.ff_store.specs.declared.store.FlushStep.TheVariants.{Collected, Programmed, Sealed}
+use Rattle.ff_store.specs.declared.store.FlushStep.TheVariants.{Collected, Programmed}
 
 -- a mapped page is at a place of the flash
 pub place_within : (s : PageStoreView) (page : PageNo) (at : Ppn) → IsStoreSound s → place_of s.world.places page ≡ Some at
@@ -104,7 +93,7 @@ programmed_same s new page bytes result sound on table r =
     let ready = ready_in s sound on in
     let t = target_of s.world r.block r.at.0 table ready r.place in
     let retained = retains_programmed s.world.flash.cells new.world.flash.cells r.at.0 bytes
-      (spare_of (pending_at page r.at s.world.places)) (operation_of result) s.world.places t.blank ready.safe.mapped r.cells in
+    (spare_of (pending_at page r.at s.world.places)) (operation_of result) s.world.places t.blank ready.safe.mapped r.cells in
     record {
       bytes = λ q.
           ap (λ (x : PageStoreView). mapped_bytes new.world.flash.cells (mapping_of x.world.places q)) r.store

@@ -1,21 +1,21 @@
 -- A page is programmed.
-use Rattle.std.proofs.Common.{
-  ◌≡◌, ◌≢◌, ◌<◌, ◌≤◌, ◌+◌, ◌*◌, ◌/◌, ◌%◌, ℕ, zero, suc, Bool, true, false, cond, eqb, List, [], ◌∷◌, length, get_or, set,
-  Option, None, Some, inl, inr, refl, sym, ap, subst, ◌∙◌, arith
-}
-use Rattle.std.specs.Prelude.{◌⊎◌, Result, Ok, Err, count_by, if◌then◌else◌}
-use Rattle.std.proofs.lemmas.Bool.{both_ways, cases_Bool, cases_eq}
+use Rattle.std.proofs.Common.{◌≡◌, ◌≢◌, ◌<◌, ◌≤◌, ◌+◌, ◌*◌, ◌/◌, ◌%◌, ℕ, suc, Bool, true, cond, eqb, List, [], ◌∷◌, length, get_or, set, Option, None, Some, inl, inr, refl, sym, ap, subst, ◌∙◌, arith}
+use Rattle.std.specs.Prelude.{◌⊎◌, Result, Ok, Err, count_by}
+use Rattle.std.proofs.lemmas.Bool.{both_ways, cases_Bool}
 use Rattle.std.proofs.lemmas.List.{get_or-set_other, get_or-set_same, length-set}
 use Rattle.std.proofs.lemmas.Option.{none-some, same_Some}
 use Rattle.ff_base.specs.declared.numbers.PageNo.{PageNo}
 use Rattle.ff_base.specs.declared.numbers.Ppn.{Ppn}
 use Rattle.ff_base.specs.declared.numbers.TheConstants.{PAGE_BYTES}
 use Rattle.ff_flash.proofs.OperationCells.{
-  program_elsewhere, program_keeps_sealed, program_length, program_seals_none, program_worked
+  program_elsewhere,
+  program_keeps_sealed,
+  program_length,
+  program_seals_none,
+  program_worked,
 }
-use Rattle.ff_flash.proofs.Operated.{was_on}
 use Rattle.ff_flash.proofs.SealedCells.{erased_unsealed}
-use Rattle.ff_flash.specs.Cells.{Cell, Programs, cell_at, closed, erased}
+use Rattle.ff_flash.specs.Cells.{Cell, Programs, cell_at, erased}
 use Rattle.ff_flash.specs.FlashState.{FlashState, Operates}
 use Rattle.ff_flash.specs.declared.flash.FlashStop.{FlashStop}
 use Rattle.ff_flash.specs.declared.flash.FlashStop.TheVariants.{Failed, Off}
@@ -23,25 +23,23 @@ use Rattle.ff_flash.specs.declared.spare.Spare.{Spare}
 use Rattle.ff_space.proofs.Changed.{block_at-changed_at, block_at-changed_at_other, length-changed_at}
 use Rattle.ff_space.specs.Blocks.{StateFits, advanced, erased_block, is_erased, raised_state, waiting}
 use Rattle.ff_space.specs.BlockTable.{IsInState, IsTableSound, TableView, block_at, changed_at, erased_count}
-use Rattle.ff_space.specs.Choices.{IsBlockToTake, IsLeast}
 use Rattle.ff_space.specs.declared.block.BlockEntry.{BlockEntry}
 use Rattle.ff_space.specs.declared.block.BlockState.{BlockState}
 use Rattle.ff_space.specs.declared.block.BlockState.TheVariants.{Erased, Full, Held, Open, Waiting}
-use Rattle.ff_map.specs.PageMap.{MapView, drawn_map, mapping_of}
-use Rattle.ff_map.specs.declared.places.Mapping.{Mapping}
+use Rattle.ff_map.specs.PageMap.{MapView, drawn_map}
 use Rattle.ff_gc.proofs.Begun.{erased_next}
-use Rattle.ff_gc.proofs.Counting.{count_hit, count_miss, count_set}
+use Rattle.ff_gc.proofs.Counting.{count_miss, count_set}
 use Rattle.ff_gc.proofs.Emptied.{no_page_of}
 use Rattle.ff_gc.proofs.Keeping.{not_off}
 use Rattle.ff_gc.proofs.Numbers.{block_of_place, place_within, rest_of_place}
 use Rattle.ff_gc.proofs.PageCopies.{write_place_blank}
-use Rattle.ff_gc.proofs.Retaining.{Retains, bytes_retained, retains_programmed, safe_retained}
+use Rattle.ff_gc.proofs.Retaining.{retains_programmed, safe_retained}
 use Rattle.ff_gc.proofs.Tables.{KeepsPages, state_after, tabled_programmed}
-use Rattle.ff_gc.specs.Cells.{AreMapped, HasNoPage, IsSafe}
+use Rattle.ff_gc.specs.Cells.{HasNoPage, IsSafe}
 use Rattle.ff_gc.specs.Collector.{CollectorView}
-use Rattle.ff_gc.specs.Running.{HasBlock, IsAt, IsLive, IsTabled, mapped_in}
-use Rattle.ff_gc.specs.Steps.{Makes, operation_of}
-use Rattle.ff_gc.specs.World.{Fits, IsReady, World, mapped_bytes}
+use Rattle.ff_gc.specs.Running.{IsAt, IsLive, IsTabled}
+use Rattle.ff_gc.specs.Steps.{Makes}
+use Rattle.ff_gc.specs.World.{Fits, IsReady, World}
 use Rattle.ff_gc.specs.declared.counts.Counts.{Counts}
 use Rattle.ff_gc.specs.declared.counts.OperationKind.TheVariants.{Program}
 use Rattle.ff_gc.specs.declared.phase.Phase.{Phase}
@@ -262,9 +260,9 @@ flushed_live w cells block at bytes spare result ready t programs =
     let change : BlockEntry → BlockEntry = λ entry. advanced w.table.per_block (opened_block entry) in
     let entry = block_at w.table block in
     let tabled = tabled_programmed per w.table block change w.flash.cells cells w.places at t.in_range
-      (flushed_keeps w.table.per_block entry t.not_waiting) refl t.lies t.rest
-      (program_length w.flash.cells at bytes spare result cells programs)
-      (λ a apart. program_elsewhere w.flash.cells at bytes spare result cells a programs apart) ready.live.tabled in
+    (flushed_keeps w.table.per_block entry t.not_waiting) refl t.lies t.rest
+    (program_length w.flash.cells at bytes spare result cells programs)
+    (λ a apart. program_elsewhere w.flash.cells at bytes spare result cells a programs apart) ready.live.tabled in
     let here : block_at (changed_at w.table block change) block ≡ change entry = block_at-changed_at w.table block change t.in_range in
     let aside : IsAside per block w.table (changed_at w.table block change) w.flash.cells cells w.places (drawn_map w.places) =
     record {
@@ -312,7 +310,7 @@ flushed_safe w flash counts block at bytes spare result stop ready t m programs 
     let rise = m.flash.power.counted ready.on in
     let r = retains_programmed w.flash.cells flash.cells at bytes spare result w.places t.blank ready.safe.mapped programs in
     let safe = safe_retained (length w.table.blocks) w.gc.per_block w.flash.operations flash.operations w.places w.flash.cells
-      flash.cells r (omega arith) ready.safe in
+    flash.cells r (omega arith) ready.safe in
     let drawn = ready.safe.drawn in
     record {
       sealed_cells = safe.sealed_cells;
@@ -418,7 +416,7 @@ flushed_ok s flash counts page bytes block at sound on table in_range room size 
     let blocks = length-changed_at w.table block change in
     let safe = flushed_safe w flash counts block at.0 bytes (spare_of p) (Ok tt) None ready t m programs in
     let free = free_beside w.gc w.table w.flash.cells w.places block w.gc.phase table ready.live.tabled t.not_held
-      t.not_waiting t.other ready.live.phase in
+    t.not_waiting t.other ready.live.phase in
     record {
       fits = flushed_fits w flash counts (flushed_table w block) None sound.fits m.flash
           (program_length w.flash.cells at.0 bytes (spare_of p) (Ok tt) flash.cells programs) blocks refl;

@@ -1,8 +1,5 @@
 -- A store over a flash of which every page is erased.
-use Rattle.std.proofs.Common.{
-  ◌≡◌, ◌≢◌, ◌<◌, ◌≤◌, ◌+◌, ◌-◌, ◌*◌, ◌/◌, ◌%◌, ◌^◌, ℕ, true, false, List, length, get_or, Option, None, Some, inl, inr, refl, sym, ap,
-  subst, ◌∙◌, arith
-}
+use Rattle.std.proofs.Common.{◌≡◌, ◌<◌, ◌*◌, ℕ, List, length, get_or, Option, None, Some, inl, inr, refl, sym, ap, ◌∙◌, arith}
 use Rattle.std.specs.Prelude.{is_some, replicate}
 use Rattle.std.proofs.lemmas.Bool.{cases_lt}
 use Rattle.std.proofs.lemmas.List.{get_or-replicate, get_or_past, length-replicate}
@@ -15,10 +12,10 @@ use Rattle.ff_flash.specs.Cells.{Cell, cell_at, erased, sealed}
 use Rattle.ff_flash.specs.FlashState.{FlashState}
 use Rattle.ff_flash.specs.declared.spare.Spare.{Spare}
 use Rattle.ff_space.specs.Blocks.{erased_block, waiting}
-use Rattle.ff_space.specs.BlockTable.{IsInState, TableView, block_at, new_table}
+use Rattle.ff_space.specs.BlockTable.{IsInState, block_at, new_table}
 use Rattle.ff_space.specs.declared.block.BlockEntry.{BlockEntry}
 use Rattle.ff_space.specs.declared.block.BlockState.TheVariants.{Erased, Held, Waiting}
-use Rattle.ff_map.specs.PageMap.{MapView, empty_map, mapping_of}
+use Rattle.ff_map.specs.PageMap.{empty_map, mapping_of}
 use Rattle.ff_map.specs.declared.places.Mapping.{Mapping}
 use Rattle.ff_gc.proofs.Counting.{count_zero}
 use Rattle.ff_gc.specs.Running.{is_in}
@@ -52,7 +49,7 @@ new_sound flash g limits blocks per cells =
     let least = limits.blocks.low in
     let most = limits.flash_pages.high in
     let none = count_zero (λ (m : Option Mapping). is_some m) (replicate g.pages None) None
-      (λ i. ap (λ (m : Option Mapping). is_some m) (same_each g.pages i None)) in
+    (λ i. ap (λ (m : Option Mapping). is_some m) (same_each g.pages i None)) in
     let in_none : (b : ℕ) → IsInState (new_table g).blocks Held b → ⊥ = λ b is.
     (let e : Erased ≡ Held = sym (ap (λ (x : BlockEntry). x.state) (new_block g b (let lies = is.in_range in omega arith))) ∙ is.state in cc) in
     let wait_none : (b : ℕ) → IsInState (new_table g).blocks Waiting b → ⊥ = λ b is.
@@ -104,7 +101,7 @@ new_sound flash g limits blocks per cells =
             counted = λ b lies.
                 (let entry = ap (λ (x : BlockEntry). x.mapped) (new_block g b (omega arith)) in
                 let zero_in = count_zero (λ (m : Option Mapping). is_in g.per_block b m) (replicate g.pages None) None
-                  (λ i. ap (λ (m : Option Mapping). is_in g.per_block b m) (same_each g.pages i None)) in
+                (λ i. ap (λ (m : Option Mapping). is_in g.per_block b m) (same_each g.pages i None)) in
                 entry ∙ sym zero_in);
             blank = λ a lies state next. blank a;
           };

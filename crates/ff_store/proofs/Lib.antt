@@ -6,6 +6,7 @@ pub mod Fresh
 pub mod Mounting
 pub mod Pigeons
 pub mod Remaining
+pub mod Rooms
 pub mod Settled
 pub mod Settling
 pub mod Written

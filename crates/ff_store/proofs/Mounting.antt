@@ -1,21 +1,18 @@
 -- What a mount finds of a store's cells: a covered block, and the newest version of each page.
-use Rattle.std.proofs.Common.{
-  ◌≡◌, ◌≢◌, ◌<◌, ◌≤◌, ◌+◌, ◌/◌, ℕ, zero, suc, Bool, true, false, cond, eqb, ltb, List, [], ◌∷◌, length, Option, None, Some, inl,
-  inr, refl, sym, ap, subst, ◌∙◌, arith
-}
-use Rattle.std.specs.Prelude.{◌⊎◌, is_some}
-use Rattle.std.proofs.lemmas.Bool.{cases_Bool, cases_eq, eq-eqb, eqb-true, ltb-false, ltb-true}
+use Rattle.std.proofs.Common.{◌≡◌, ◌≢◌, ◌≤◌, ◌/◌, ℕ, zero, suc, true, cond, eqb, ltb, List, [], ◌∷◌, length, Option, None, Some, inl, inr, refl, sym, ap, subst, ◌∙◌, arith}
+use Rattle.std.specs.Prelude.{is_some}
+use Rattle.std.proofs.lemmas.Bool.{cases_Bool, eq-eqb, eqb-true, ltb-false, ltb-true}
 use Rattle.std.proofs.lemmas.Option.{none-some, same_Some}
 use Rattle.ff_base.specs.declared.numbers.PageNo.{PageNo}
 use Rattle.ff_flash.specs.Cells.{Cell, cell_at, cell_bytes, closed, erased, sealed, spoiled}
 use Rattle.ff_flash.specs.declared.spare.Spare.{Spare}
-use Rattle.ff_map.specs.PageMap.{MapView, mapping_of}
+use Rattle.ff_map.specs.PageMap.{mapping_of}
 use Rattle.ff_map.specs.declared.places.Mapping.{Mapping}
 use Rattle.ff_gc.proofs.PageCopies.{same_page}
-use Rattle.ff_gc.specs.Cells.{HasCovered, HasNewer, IsBacked, IsUnmapped}
+use Rattle.ff_gc.specs.Cells.{HasCovered, IsUnmapped}
 use Rattle.ff_gc.specs.World.{mapped_bytes, page_bytes}
 use Rattle.ff_store.specs.Best.{Version, best, bytes_or_zeros, newer, sealed_as}
-use Rattle.ff_store.specs.PageStore.{IsAlways, IsElsewhere, PageStoreView, spare_of, unmapped_of}
+use Rattle.ff_store.specs.PageStore.{IsAlways, IsElsewhere, PageStoreView, unmapped_of}
 use Rattle.ff_store.specs.Pages.{is_mapped}
 use Rattle.ff_store.specs.declared.pending.Pending.{Pending}
 
@@ -32,14 +29,14 @@ covered s always = record {
   in_range = always.safe.spare.in_range;
   covered = λ a x spare is lies. elim (always.safe.mapped.known a x spare is) [
     | inl newest ↦ record {
-        at = newest.mapping.at.0;
-        bytes = cell_bytes (cell_at s.world.flash.cells newest.mapping.at.0);
-        other = record { page = spare.page; version = newest.mapping.version };
-        is = always.safe.mapped.placed spare.page newest.mapping newest.is;
-        elsewhere = always.safe.spare.unmapped spare.page newest.mapping newest.is;
-        page = refl;
-        newer = newest.newer;
-      }
+      at = newest.mapping.at.0;
+      bytes = cell_bytes (cell_at s.world.flash.cells newest.mapping.at.0);
+      other = record { page = spare.page; version = newest.mapping.version };
+      is = always.safe.mapped.placed spare.page newest.mapping newest.is;
+      elsewhere = always.safe.spare.unmapped spare.page newest.mapping newest.is;
+      page = refl;
+      newer = newest.newer;
+    }
     | inr unknown ↦
         absurd (unknown_elsewhere s.waits s.world.gc.per_block always.safe.spare.block a spare always.elsewhere unknown lies)
   ];

@@ -1,15 +1,12 @@
 -- Where no collection runs, no block has a page to program and the mapped pages are within the capacity, a block can be
 -- collected.
-use Rattle.std.proofs.Common.{
-  ◌≡◌, ◌≢◌, ◌<◌, ◌≤◌, ◌+◌, ◌-◌, ◌*◌, ◌/◌, ℕ, zero, suc, Bool, true, false, cond, eqb, ltb, List, [], ◌∷◌, length, get_or,
-  set, Option, None, Some, inl, inr, refl, sym, ap, ◌∙◌, arith
-}
+use Rattle.std.proofs.Common.{◌≡◌, ◌≢◌, ◌<◌, ◌≤◌, ◌+◌, ◌-◌, ◌*◌, ◌/◌, ℕ, zero, suc, Bool, cond, eqb, ltb, List, [], ◌∷◌, length, get_or, set, Option, None, Some, inl, inr, refl, ap, ◌∙◌, arith}
 use Rattle.std.specs.Prelude.{count_by, is_some, ◌⊎◌}
-use Rattle.std.proofs.Math.Nat.{mul-le-mul_left, mul_comm}
-use Rattle.std.proofs.lemmas.Bool.{cases_Bool, cases_eq, cases_lt, eq-eqb, eqb-true, le-ltb, lt-ltb, ltb-false, ltb-true, ne_eqb}
+use Rattle.std.proofs.Math.Nat.{mul_comm}
+use Rattle.std.proofs.lemmas.Bool.{cases_Bool, cases_eq, cases_lt, eq-eqb, le-ltb, lt-ltb, ne_eqb}
 use Rattle.std.proofs.lemmas.List.{get_or-set_other, length-set}
 use Rattle.ff_space.specs.Blocks.{erased_block, is_erased, waiting}
-use Rattle.ff_space.specs.BlockTable.{IsInState, IsTableSound, TableView, block_at, erased_count}
+use Rattle.ff_space.specs.BlockTable.{IsInState, TableView, block_at, erased_count}
 use Rattle.ff_space.specs.Choices.{IsAllMapped, IsNoPlace}
 use Rattle.ff_space.specs.declared.block.BlockEntry.{BlockEntry}
 use Rattle.ff_space.specs.declared.block.BlockState.{BlockState}
@@ -17,7 +14,7 @@ use Rattle.ff_space.specs.declared.block.BlockState.TheVariants.{Erased, Full, H
 use Rattle.ff_map.specs.PageMap.{MapView}
 use Rattle.ff_map.specs.declared.places.Mapping.{Mapping}
 use Rattle.ff_gc.proofs.Counting.{count_cons, count_set, count_some}
-use Rattle.ff_gc.specs.Running.{IsIdle, IsTabled, is_in, mapped_in}
+use Rattle.ff_gc.specs.Running.{IsIdle, is_in, mapped_in}
 
 -- the sum of the first values
 abbrev sum_to : (ℕ → ℕ) → ℕ → ℕ
@@ -81,8 +78,8 @@ counted_once per k (x ∷ pages) =
     let later = counted_once per k pages in
     let first = in_once per k x in
     let split = sum_same (λ b. count_by (λ m. is_in per b m) (x ∷ pages))
-      (λ b. cond (is_in per b x) 1 0 + count_by (λ m. is_in per b m) pages) k
-      (λ b below. count_cons (λ m. is_in per b m) x pages) in
+    (λ b. cond (is_in per b x) 1 0 + count_by (λ m. is_in per b m) pages) k
+    (λ b below. count_cons (λ m. is_in per b m) x pages) in
     let parts = sum_plus (λ b. cond (is_in per b x) 1 0) (λ b. count_by (λ m. is_in per b m) pages) k in
     let whole = count_cons (λ (m : Option Mapping). is_some m) x pages in
     omega arith
@@ -162,9 +159,9 @@ has_victim per table places same some two counted idle room nowhere all =
     let e = idle.spare in
     let whole : (b : ℕ) → b < n → b ≢ e.block → (block_at table b).mapped ≡ per = λ b below apart.
     elim (full_or_erased (block_at table b).state
-      (λ is. nowhere.none_open b (record { in_range = below; state = is }))
-      (λ is. idle.none_held b (record { in_range = below; state = is }))
-      (λ is. idle.none_waits b (record { in_range = below; state = is }))) [
+    (λ is. nowhere.none_open b (record { in_range = below; state = is }))
+    (λ is. idle.none_held b (record { in_range = below; state = is }))
+    (λ is. idle.none_waits b (record { in_range = below; state = is }))) [
       | inl full ↦ all b (record { in_range = below; state = full }) ∙ same
       | inr blank ↦
           let few = nowhere.few in

@@ -1,13 +1,9 @@
 -- Every collection step of a flush leaves fewer of them.
-use Rattle.std.proofs.Common.{
-  ◌≡◌, ◌≢◌, ◌<◌, ◌≤◌, ◌+◌, ◌-◌, ◌*◌, ◌/◌, ◌%◌, ℕ, Bool, true, false, cond, eqb, List, length, inl, inr, refl, sym, ap, subst,
-  ◌∙◌, arith
-}
-use Rattle.std.specs.Prelude.{◌⊎◌, Result, Ok, not, if◌then◌else◌}
+use Rattle.std.proofs.Common.{◌≡◌, ◌≢◌, ◌<◌, ◌≤◌, ◌+◌, ◌*◌, ℕ, Bool, true, false, eqb, List, inl, inr, refl, ap, ◌∙◌, arith}
+use Rattle.std.specs.Prelude.{◌⊎◌, Ok, not, if◌then◌else◌}
 use Rattle.std.proofs.lemmas.Bool.{both_ways, cases_Bool, cases_lt, eq-eqb, eqb-true, ne_eqb}
-use Rattle.ff_flash.specs.declared.flash.FlashStop.{FlashStop}
 use Rattle.ff_space.specs.Blocks.{erased_block, waiting}
-use Rattle.ff_space.specs.BlockTable.{IsInState, IsTableSound, TableView, block_at, erased_count}
+use Rattle.ff_space.specs.BlockTable.{IsTableSound, TableView, block_at}
 use Rattle.ff_space.specs.Choices.{IsNoPlace}
 use Rattle.ff_space.specs.declared.block.BlockEntry.{BlockEntry}
 use Rattle.ff_space.specs.declared.block.BlockState.{BlockState}
@@ -17,12 +13,12 @@ use Rattle.ff_gc.proofs.Falling.{steps_end, steps_fall}
 use Rattle.ff_gc.specs.Collector.{is_busy}
 use Rattle.ff_gc.specs.Left.{IsEndingAt, is_open, left_from, left_in, open_count}
 use Rattle.ff_gc.specs.Steps.{IsStep}
-use Rattle.ff_gc.specs.World.{IsReady, Keeps, World}
+use Rattle.ff_gc.specs.World.{IsReady, World}
 use Rattle.ff_gc.specs.declared.collector.GcStep.{GcStep}
 use Rattle.ff_gc.specs.declared.collector.GcStep.TheVariants.{Idle as IdleStep}
 use Rattle.ff_gc.specs.declared.phase.Phase.{Phase}
 use Rattle.ff_gc.specs.declared.phase.Phase.TheVariants.{Idle, Programming, Reading, Sealing, Commit, Erasing, Aborting}
-use Rattle.ff_store.proofs.Flushing.{Found, found_of}
+use Rattle.ff_store.proofs.Flushing.{found_of}
 use Rattle.ff_store.specs.Left.{is_ending, left_of}
 
 some_not : (n : ℕ) → 0 < n → not (eqb n 0) ≡ true
@@ -175,7 +171,7 @@ pub left_falls : (old new : World) (step : GcStep) → IsTableSound old.table �
 left_falls old new step sound ready why other r per = elim (cases_Bool (is_busy old.gc.phase)) [
   | inl busy ↦ busy_falls old new step sound ready busy other r per
   | inr not_busy ↦ elim why [
-      | inl busy ↦ absurd (both_ways (is_busy old.gc.phase) not_busy busy)
-      | inr nowhere ↦ idle_falls old new step sound ready (idle_of old.gc.phase not_busy) nowhere other r per
-    ]
+    | inl busy ↦ absurd (both_ways (is_busy old.gc.phase) not_busy busy)
+    | inr nowhere ↦ idle_falls old new step sound ready (idle_of old.gc.phase not_busy) nowhere other r per
+  ]
 ]

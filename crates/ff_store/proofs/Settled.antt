@@ -1,54 +1,36 @@
 -- The store after a seal.
-use Rattle.std.proofs.Common.{
-  ◌≡◌, ◌≢◌, ◌<◌, ◌≤◌, ◌+◌, ◌-◌, ◌*◌, ◌/◌, ◌%◌, ℕ, Bool, true, false, cond, eqb, List, length, get_or, set, Option, None,
-  Some, inl, inr, refl, sym, ap, subst, ◌∙◌, arith
-}
-use Rattle.std.specs.Prelude.{◌⊎◌, Result, Ok, Err, is_some, if◌then◌else◌}
-use Rattle.std.proofs.lemmas.Bool.{cases_Bool, cases_eq, eq-eqb, ne_eqb}
+use Rattle.std.proofs.Common.{◌≡◌, ◌≢◌, ◌<◌, ◌≤◌, ◌/◌, ℕ, true, eqb, List, length, Option, None, Some, inl, inr, sym, ap, subst, ◌∙◌, arith}
+use Rattle.std.specs.Prelude.{Ok, Err}
+use Rattle.std.proofs.lemmas.Bool.{cases_eq, ne_eqb}
 use Rattle.std.proofs.lemmas.List.{length-set}
 use Rattle.std.proofs.lemmas.Option.{none-some, same_Some}
 use Rattle.ff_base.specs.declared.numbers.PageNo.{PageNo}
 use Rattle.ff_flash.proofs.OperationCells.{seal_either, seal_failed, seal_length, seal_worked}
-use Rattle.ff_flash.proofs.SealedCells.{closed_unsealed, closed_within, sealed_stays, sealed_within}
-use Rattle.ff_flash.specs.Cells.{Cell, Seals, cell_at, cell_bytes, closed, erased, sealed}
-use Rattle.ff_flash.specs.FlashState.{FlashState, Operates}
-use Rattle.ff_flash.specs.declared.flash.FlashStop.{FlashStop}
+use Rattle.ff_flash.proofs.SealedCells.{closed_unsealed, sealed_stays}
+use Rattle.ff_flash.specs.Cells.{Cell, Seals, cell_at, sealed}
+use Rattle.ff_flash.specs.FlashState.{FlashState}
 use Rattle.ff_flash.specs.declared.flash.FlashStop.TheVariants.{Failed, Off}
 use Rattle.ff_flash.specs.declared.spare.Spare.{Spare}
-use Rattle.ff_space.proofs.Changed.{block_at-changed_at, block_at-changed_at_other, length-changed_at}
-use Rattle.ff_space.specs.Blocks.{mapped_less, mapped_more}
-use Rattle.ff_space.specs.BlockTable.{IsTableSound, TableView, block_at, changed_at}
-use Rattle.ff_space.specs.declared.block.BlockEntry.{BlockEntry}
-use Rattle.ff_space.specs.declared.block.BlockState.{BlockState}
-use Rattle.ff_space.specs.declared.block.BlockState.TheVariants.{Erased, Full, Held, Open, Waiting}
-use Rattle.ff_map.proofs.Lookups.{mapping_of-with_mapping, mapping_of-with_mapping_other, mapped_page_within}
+use Rattle.ff_space.specs.BlockTable.{TableView, block_at}
+use Rattle.ff_space.specs.declared.block.BlockState.TheVariants.{Held, Waiting}
+use Rattle.ff_map.proofs.Lookups.{mapping_of-with_mapping, mapping_of-with_mapping_other}
 use Rattle.ff_map.specs.PageMap.{MapView, mapping_of, with_mapping}
 use Rattle.ff_map.specs.declared.places.Mapping.{Mapping}
-use Rattle.ff_gc.proofs.Counting.{count_set, count_some}
 use Rattle.ff_gc.proofs.Keeping.{not_off}
-use Rattle.ff_gc.proofs.Numbers.{block_within}
 use Rattle.ff_gc.proofs.PageCopies.{same_page}
 use Rattle.ff_gc.proofs.PageSeals.{tabled_sealed}
-use Rattle.ff_gc.proofs.Retaining.{cell_at-set, cell_at-set_other}
-use Rattle.ff_gc.specs.Cells.{AreMapped, AreSealed, HasNewer, IsSafe}
-use Rattle.ff_gc.specs.Collector.{CollectorView}
-use Rattle.ff_gc.specs.Running.{HasBlock, IsAt, IsLive, IsTabled, is_in, mapped_in}
+use Rattle.ff_gc.proofs.Retaining.{cell_at-set_other}
+use Rattle.ff_gc.specs.Cells.{AreMapped, AreSealed}
+use Rattle.ff_gc.specs.Running.{IsAt, IsLive}
 use Rattle.ff_gc.specs.Steps.{Makes}
-use Rattle.ff_gc.specs.World.{Fits, IsReady, World}
 use Rattle.ff_gc.specs.declared.counts.Counts.{Counts}
 use Rattle.ff_gc.specs.declared.counts.OperationKind.TheVariants.{Seal}
-use Rattle.ff_gc.specs.declared.phase.Phase.TheVariants.{Idle}
-use Rattle.ff_store.proofs.Settling.{
-  IsCounted, counted_there, mapped_all, mapped_block, mapped_count_with, mapped_in_with, mapped_not_waiting, new_or_old, one_if, pending_in,
-  placed_counted, placed_mapped, sealed_all, sealed_cells_of, usable_not
-}
+use Rattle.ff_store.proofs.Settling.{counted_there, mapped_all, mapped_block, mapped_count_with, mapped_in_with, mapped_not_waiting, new_or_old, one_if, pending_in, placed_counted, placed_mapped, sealed_all, sealed_cells_of, usable_not}
 use Rattle.ff_store.proofs.Around.{IsAside, at_aside}
-use Rattle.ff_store.proofs.Basics.{counted_after, elsewhere_none, fits_operated, ready_in, sealed_later, waiting_some, with_flash}
-use Rattle.ff_store.specs.Calls.{dropped, new_mapping, placed_table}
-use Rattle.ff_store.specs.PageStore.{
-  IsElsewhere, IsPending, IsStoreSound, IsWaiting, PageStoreView, spare_of, unmapped_of
-}
-use Rattle.ff_store.specs.Pages.{page_capacity, is_mapped, mapped_count, mapped_with}
+use Rattle.ff_store.proofs.Basics.{counted_after, fits_operated, ready_in, sealed_later, with_flash}
+use Rattle.ff_store.specs.Calls.{new_mapping, placed_table}
+use Rattle.ff_store.specs.PageStore.{IsElsewhere, IsPending, IsStoreSound, PageStoreView, spare_of, unmapped_of}
+use Rattle.ff_store.specs.Pages.{page_capacity, mapped_count}
 use Rattle.ff_store.specs.declared.pending.Pending.{Pending}
 
 elsewhere_some : (waits : Option Pending) (p : Pending) (per block : ℕ) → waits ≡ Some p → IsElsewhere per waits block
@@ -103,7 +85,7 @@ settled_live s p w sound on page =
     let counted = placed_counted per table old block (old_within s p sound on) w.block in
     let unsealed = closed_unsealed (cell_at cells p.at.0) w.bytes (spare_of p) w.cell in
     let tabled = tabled_sealed per table cells places p.at.0 w.bytes (spare_of p) (sealed w.bytes (spare_of p)) w.cell
-      (length-set cells p.at.0 (sealed w.bytes (spare_of p))) live.tabled in
+    (length-set cells p.at.0 (sealed w.bytes (spare_of p))) live.tabled in
     let more = λ (b : ℕ). placed_mapped per table old block b (old_within s p sound on) (old_counted s p sound on) w.block in
     let size = counted.size in
     let aside : IsAside per block table (settled_table s p) cells (sealed_cells_of s p w.bytes) places (settled_map s p) =
@@ -137,13 +119,13 @@ settled_live s p w sound on page =
       phase = at_aside s.world.gc block table (settled_table s p) cells (sealed_cells_of s p w.bytes) places (settled_map s p)
           s.world.gc.phase aside w.apart
           (λ idle.
-              (let at_idle = subst (λ q. IsAt s.world.gc cells table places q) idle live.phase in record {
-                block = at_idle.spare.block;
-                is = record {
-                  in_range = (let within = at_idle.spare.is.in_range in omega arith);
-                  state = counted.state at_idle.spare.block ∙ at_idle.spare.is.state;
-                };
-              }))
+          (let at_idle = subst (λ q. IsAt s.world.gc cells table places q) idle live.phase in record {
+            block = at_idle.spare.block;
+            is = record {
+              in_range = (let within = at_idle.spare.is.in_range in omega arith);
+              state = counted.state at_idle.spare.block ∙ at_idle.spare.is.state;
+            };
+          }))
           live.phase;
     }
 
@@ -170,7 +152,7 @@ settled_ok s flash counts p sound on waits m seals =
     let cells : flash.cells ≡ sealed_cells_of s p w.bytes =
     seal_worked world.flash.cells p.at.0 w.bytes (spare_of p) flash.cells w.cell seals in
     let counted = placed_counted world.gc.per_block world.table (mapping_of world.places p.page) (p.at.0 / world.gc.per_block)
-      (old_within s p sound on) w.block in
+    (old_within s p sound on) w.block in
     let size = counted.size in
     let pages = length-set world.places.pages p.page.0 (Some (new_mapping p)) in
     let rise = m.flash.power.counted on in

@@ -1,50 +1,32 @@
 -- A flush is sealed.
-use Rattle.std.proofs.Common.{
-  ◌≡◌, ◌≢◌, ◌<◌, ◌≤◌, ◌+◌, ◌-◌, ◌*◌, ◌/◌, ◌%◌, ℕ, Bool, true, false, cond, eqb, List, length, get_or, set, Option, None,
-  Some, inl, inr, refl, sym, ap, subst, ◌∙◌, arith
-}
-use Rattle.std.specs.Prelude.{◌⊎◌, Result, Ok, Err, is_some, if◌then◌else◌}
+use Rattle.std.proofs.Common.{◌≡◌, ◌≢◌, ◌<◌, ◌≤◌, ◌+◌, ◌-◌, ◌/◌, ℕ, Bool, true, false, cond, eqb, List, length, set, Option, None, Some, inl, inr, refl, sym, ap, subst, ◌∙◌, arith}
+use Rattle.std.specs.Prelude.{◌⊎◌, is_some, if◌then◌else◌}
 use Rattle.std.proofs.lemmas.Bool.{cases_Bool, cases_eq, eq-eqb, ne_eqb}
-use Rattle.std.proofs.lemmas.List.{length-set}
-use Rattle.std.proofs.lemmas.Option.{none-some, same_Some}
+use Rattle.std.proofs.lemmas.Option.{same_Some}
 use Rattle.ff_base.specs.declared.numbers.PageNo.{PageNo}
-use Rattle.ff_flash.proofs.OperationCells.{seal_either, seal_failed, seal_length, seal_worked}
-use Rattle.ff_flash.proofs.SealedCells.{closed_unsealed, closed_within, sealed_stays, sealed_within}
-use Rattle.ff_flash.specs.Cells.{Cell, Seals, cell_at, cell_bytes, closed, erased, sealed}
-use Rattle.ff_flash.specs.FlashState.{FlashState, Operates}
-use Rattle.ff_flash.specs.declared.flash.FlashStop.{FlashStop}
-use Rattle.ff_flash.specs.declared.flash.FlashStop.TheVariants.{Failed, Off}
+use Rattle.ff_flash.proofs.SealedCells.{closed_within, sealed_within}
+use Rattle.ff_flash.specs.Cells.{Cell, cell_at, cell_bytes, closed, sealed}
 use Rattle.ff_flash.specs.declared.spare.Spare.{Spare}
 use Rattle.ff_space.proofs.Changed.{block_at-changed_at, block_at-changed_at_other, length-changed_at}
 use Rattle.ff_space.specs.Blocks.{mapped_less, mapped_more}
-use Rattle.ff_space.specs.BlockTable.{IsTableSound, TableView, block_at, changed_at}
+use Rattle.ff_space.specs.BlockTable.{TableView, block_at, changed_at}
 use Rattle.ff_space.specs.declared.block.BlockEntry.{BlockEntry}
 use Rattle.ff_space.specs.declared.block.BlockState.{BlockState}
-use Rattle.ff_space.specs.declared.block.BlockState.TheVariants.{Erased, Full, Held, Open, Waiting}
+use Rattle.ff_space.specs.declared.block.BlockState.TheVariants.{Full, Open}
 use Rattle.ff_map.proofs.Lookups.{mapping_of-with_mapping, mapping_of-with_mapping_other, mapped_page_within}
 use Rattle.ff_map.specs.PageMap.{MapView, mapping_of, with_mapping}
 use Rattle.ff_map.specs.declared.places.Mapping.{Mapping}
 use Rattle.ff_gc.proofs.Counting.{count_set, count_some}
-use Rattle.ff_gc.proofs.Keeping.{not_off}
 use Rattle.ff_gc.proofs.Numbers.{block_within}
 use Rattle.ff_gc.proofs.PageCopies.{same_page}
-use Rattle.ff_gc.proofs.PageSeals.{tabled_sealed}
 use Rattle.ff_gc.proofs.Retaining.{cell_at-set, cell_at-set_other}
-use Rattle.ff_gc.specs.Cells.{AreMapped, AreSealed, HasNewer, IsSafe}
-use Rattle.ff_gc.specs.Collector.{CollectorView}
-use Rattle.ff_gc.specs.Running.{HasBlock, IsLive, IsTabled, is_in, mapped_in}
-use Rattle.ff_gc.specs.Steps.{Makes}
-use Rattle.ff_gc.specs.World.{Fits, IsReady, World}
-use Rattle.ff_gc.specs.declared.counts.Counts.{Counts}
-use Rattle.ff_gc.specs.declared.counts.OperationKind.TheVariants.{Seal}
-use Rattle.ff_gc.specs.declared.phase.Phase.TheVariants.{Idle}
-use Rattle.ff_store.proofs.Around.{IsAside, at_aside}
-use Rattle.ff_store.proofs.Basics.{counted_after, elsewhere_none, fits_operated, ready_in, sealed_later, waiting_some, with_flash}
+use Rattle.ff_gc.specs.Cells.{AreMapped, AreSealed}
+use Rattle.ff_gc.specs.Running.{is_in, mapped_in}
+use Rattle.ff_gc.specs.World.{IsReady, World}
+use Rattle.ff_store.proofs.Basics.{waiting_some}
 use Rattle.ff_store.specs.Calls.{dropped, new_mapping, placed_table}
-use Rattle.ff_store.specs.PageStore.{
-  IsElsewhere, IsPending, IsStoreSound, IsWaiting, PageStoreView, spare_of, unmapped_of
-}
-use Rattle.ff_store.specs.Pages.{page_capacity, is_mapped, mapped_count, mapped_with}
+use Rattle.ff_store.specs.PageStore.{IsPending, IsStoreSound, PageStoreView, spare_of}
+use Rattle.ff_store.specs.Pages.{is_mapped, mapped_count, mapped_with}
 use Rattle.ff_store.specs.declared.pending.Pending.{Pending}
 
 pub pending_in : (s : PageStoreView) (p : Pending) → IsStoreSound s → s.world.flash.on ≡ true → s.waits ≡ Some p
@@ -233,17 +215,17 @@ sealed_all s p later w old page more version = record {
   same = λ a b x y spare one other.
       elim (new_or_old s p w.bytes w.cell a x spare one).either [
         | inl first ↦ elim (new_or_old s p w.bytes w.cell b y spare other).either [
-            | inl second ↦ first.1 ∙ sym second.1
-            | inr was ↦
-                let below = w.newest b y spare was in
-                let is = ap (λ (sp : Spare). sp.version) first.2 in absurd (omega arith)
-          ]
+          | inl second ↦ first.1 ∙ sym second.1
+          | inr was ↦
+              let below = w.newest b y spare was in
+              let is = ap (λ (sp : Spare). sp.version) first.2 in absurd (omega arith)
+        ]
         | inr was ↦ elim (new_or_old s p w.bytes w.cell b y spare other).either [
-            | inl second ↦
-                let below = w.newest a x spare was in
-                let is = ap (λ (sp : Spare). sp.version) second.2 in absurd (omega arith)
-            | inr also ↦ old.same a b x y spare was also
-          ]
+          | inl second ↦
+              let below = w.newest a x spare was in
+              let is = ap (λ (sp : Spare). sp.version) second.2 in absurd (omega arith)
+          | inr also ↦ old.same a b x y spare was also
+        ]
       ];
   page = λ a x spare is. elim (new_or_old s p w.bytes w.cell a x spare is).either [
     | inl new ↦ subst (λ (sp : Spare). sp.page.0 < length s.world.places.pages) (sym new.2) page
@@ -270,9 +252,9 @@ pub mapped_not_waiting : (s : PageStoreView) (p : Pending) (w : IsPending s p) �
 mapped_not_waiting s p w mapped page m is =
     cell_at-set_other s.world.flash.cells p.at.0 (sealed w.bytes (spare_of p)) m.at.0
     (λ same.
-        (let e : closed w.bytes (spare_of p) ≡ sealed (cell_bytes (cell_at s.world.flash.cells m.at.0))
-          (record { page = page; version = m.version }) =
-        sym w.cell ∙ ap (λ a. cell_at s.world.flash.cells a) (sym same) ∙ mapped.placed page m is in cc))
+    (let e : closed w.bytes (spare_of p) ≡ sealed (cell_bytes (cell_at s.world.flash.cells m.at.0))
+    (record { page = page; version = m.version }) =
+    sym w.cell ∙ ap (λ a. cell_at s.world.flash.cells a) (sym same) ∙ mapped.placed page m is in cc))
 
 -- the map with the new mapping
 pub mapped_all : (s : PageStoreView) (p : Pending) (w : IsPending s p) → AreMapped None s.world.flash.cells s.world.places
@@ -314,20 +296,20 @@ mapped_all s p w old page_within =
               newer = (let v = ap (λ (sp : Spare). sp.version) e in omega arith);
             }
         | inr was ↦ elim (old.known a x spare was) [
-            | inl newer ↦ elim (cases_eq spare.page.0 p.page.0) [
-                | inl same ↦ inl record {
-                    mapping = new_mapping p;
-                    is = ap (λ q. mapping_of (with_mapping places p.page (new_mapping p)) q) (same_page spare.page p.page same) ∙ own;
-                    newer = (let below = w.newest a x spare was in omega arith);
-                  }
-                | inr apart ↦ inl record {
-                    mapping = newer.mapping;
-                    is = mapping_of-with_mapping_other places p.page (new_mapping p) spare.page apart ∙ newer.is;
-                    newer = newer.newer;
-                  }
-              ]
-            | inr none ↦ absurd none
+          | inl newer ↦ elim (cases_eq spare.page.0 p.page.0) [
+            | inl same ↦ inl record {
+              mapping = new_mapping p;
+              is = ap (λ q. mapping_of (with_mapping places p.page (new_mapping p)) q) (same_page spare.page p.page same) ∙ own;
+              newer = (let below = w.newest a x spare was in omega arith);
+            }
+            | inr apart ↦ inl record {
+              mapping = newer.mapping;
+              is = mapping_of-with_mapping_other places p.page (new_mapping p) spare.page apart ∙ newer.is;
+              newer = newer.newer;
+            }
           ]
+          | inr none ↦ absurd none
+        ]
       ];
       next = λ a x spare is. elim (new_or_old s p w.bytes w.cell a x spare is).either [
         | inl new ↦ subst (λ (sp : Spare). sp.version < places.next_version) (sym new.2) w.drawn

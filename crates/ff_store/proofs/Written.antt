@@ -1,5 +1,5 @@
 -- The table where a page is programmed.
-use Rattle.std.proofs.Common.{◌≡◌, ◌<◌, ◌+◌, ◌*◌, ℕ, List, length, set, inr, refl, sym, ap, subst, ◌∙◌, arith}
+use Rattle.std.proofs.Common.{◌≡◌, ◌<◌, ◌*◌, ℕ, List, length, set, inr, refl, sym, ap, subst, ◌∙◌, arith}
 use Rattle.std.proofs.lemmas.List.{set-set}
 use Rattle.ff_space.proofs.Changed.{block_at-changed_at}
 use Rattle.ff_space.specs.Blocks.{CanAdvance, IsWritable, StateFits, advanced, taken_block}
@@ -36,7 +36,7 @@ pub can_advance : (table : TableView) (block : ℕ) → IsTableSound table → b
     → (block_at table block).state ≡ Open → CanAdvance table.per_block (block_at table block)
 can_advance table block sound within is = (
   subst (λ s. StateFits table.per_block s (block_at table block).next (block_at table block).mapped) is
-  (sound.each block within).fits,
+      (sound.each block within).fits,
   open_writable (block_at table block).state is,
 )
 
@@ -54,7 +54,7 @@ used_erased table block sound within is =
     let none : entry.mapped ≡ 0 = omega arith in
     let taken = block_at-changed_at table block (λ _. taken_block) within in
     ap (λ (e : BlockEntry).
-        let t : TableView = record table { blocks = set (set table.blocks block taken_block) block (advanced table.per_block e) } in t)
+    let t : TableView = record table { blocks = set (set table.blocks block taken_block) block (advanced table.per_block e) } in t)
     taken
     ∙ ap (λ (bs : List BlockEntry). let t : TableView = record table { blocks = bs } in t)
     (set-set table.blocks block taken_block (advanced table.per_block taken_block))

@@ -1,14 +1,33 @@
 -- What each call of a store makes of it.
 use Rattle.std.specs.Prelude.{
-  ℕ, ◌+◌, ◌*◌, ◌/◌, ◌≤◌, ◌≡◌, ◌≢◌, ◌&&◌, ◌⊎◌, Bool, true, List, length, Option, None, Some,
-  option_map, Result, Ok, Err, IfOk
+  ℕ,
+  ◌+◌,
+  ◌*◌,
+  ◌/◌,
+  ◌≤◌,
+  ◌≡◌,
+  ◌≢◌,
+  ◌&&◌,
+  ◌⊎◌,
+  Bool,
+  true,
+  List,
+  length,
+  Option,
+  None,
+  Some,
+  option_map,
+  Result,
+  Ok,
+  Err,
+  IfOk,
 }
 use Rattle.ff_base.specs.declared.numbers.PageNo.{PageNo}
 use Rattle.ff_base.specs.declared.numbers.Ppn.{Ppn}
 use Rattle.ff_flash.specs.Cells.{Programs, ReadsBytes, Seals, cell_at, cell_bytes, closed}
 use Rattle.ff_flash.specs.Injected.{stop_of}
 use Rattle.ff_flash.specs.declared.flash.FlashStop.{FlashStop}
-use Rattle.ff_flash.specs.declared.flash.FlashStop.TheVariants.{Failed, Off}
+use Rattle.ff_flash.specs.declared.flash.FlashStop.TheVariants.{Off}
 use Rattle.ff_space.specs.Blocks.{advanced, mapped_less, mapped_more}
 use Rattle.ff_space.specs.BlockTable.{TableView, IsInState, block_at, changed_at, erased_count}
 use Rattle.ff_space.specs.Choices.{IsAllMapped, IsBlockToTake, IsLeast, IsNoPlace}
@@ -45,7 +64,7 @@ pub record IsCall (old : PageStoreView) (stop : Option FlashStop) (new : PageSto
 pub record SameBytes (old new : PageStoreView) : Type 0 where
   pub bytes : (page : PageNo) → page_bytes new.world page ≡ page_bytes old.world page
   pub versions : (page : PageNo)
-    → version_of new.world.places page ≡ version_of old.world.places page
+      → version_of new.world.places page ≡ version_of old.world.places page
 
 -- the page that is to be sealed
 abbrev pub waiting_page : PageStoreView → Option PageNo
@@ -108,7 +127,7 @@ pub record ProgramsPage (old : PageStoreView) (page : PageNo) (bytes : List ℕ)
   pub place : IsWritePlace old.world.table block at.0
   pub operation : Makes Program old.world (stop_of result) new.world
   pub cells : Programs old.world.flash.cells at.0 bytes
-    (spare_of (pending_at page at old.world.places)) (operation_of result) new.world.flash.cells
+      (spare_of (pending_at page at old.world.places)) (operation_of result) new.world.flash.cells
   pub step : IfOk result (λ step. step ≡ Programmed)
   pub store : new ≡ record old {
     world = record old.world {
@@ -136,7 +155,7 @@ pub record CollectsFor (old : PageStoreView) (result : Result FlushStep FlashSto
 pub data Flushes (old : PageStoreView) (page : PageNo) (bytes : List ℕ)
     (result : Result FlushStep FlashStop) (new : PageStoreView) : Type 0 where
   programs_flush : (CollectsNow old → ⊥) → ProgramsPage old page bytes result new
-    → Flushes old page bytes result new
+      → Flushes old page bytes result new
   collects_flush : CollectsNow old → CollectsFor old result new → Flushes old page bytes result new
 
 -- the page is to be sealed, with these bytes
@@ -199,7 +218,7 @@ pub record IsPlaced (old : PageStoreView) (page : PageNo) (new : PageStoreView) 
   pub places : new.world.places ≡ with_mapping old.world.places page (new_mapping pending)
   pub bytes : page_bytes new.world page ≡ cell_bytes (cell_at old.world.flash.cells pending.at.0)
   pub others : (other : PageNo) → other.0 ≢ page.0
-    → page_bytes new.world other ≡ page_bytes old.world other
+      → page_bytes new.world other ≡ page_bytes old.world other
   pub done : new.waits ≡ None
 
 -- the page of the flush that waits is sealed

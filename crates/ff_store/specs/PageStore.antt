@@ -1,8 +1,5 @@
 -- What a contract sees of a store, and what the store keeps.
-use Rattle.std.specs.Prelude.{
-  ℕ, ◌+◌, ◌-◌, ◌*◌, ◌/◌, ◌%◌, ◌<◌, ◌≤◌, ◌≡◌, ◌≢◌, ◌⊎◌, Bool, true, false, List, length, Option,
-  None, Some
-}
+use Rattle.std.specs.Prelude.{ℕ, ◌+◌, ◌/◌, ◌%◌, ◌<◌, ◌≤◌, ◌≡◌, ◌≢◌, ◌⊎◌, Bool, true, false, List, length, Option, None, Some}
 use Rattle.ff_base.specs.declared.geometry.Geometry.{Geometry}
 use Rattle.ff_base.specs.declared.numbers.TheConstants.{PAGE_BYTES}
 use Rattle.ff_flash.specs.Cells.{closed, sealed, cell_at}
@@ -69,7 +66,7 @@ pages_with s (Some p) = mapped_with s.world.places p.page
 -- doesn't know it
 pub record IsAlways (s : PageStoreView) : Type 0 where
   pub safe : IsSafe (unmapped_of s.waits) (length s.world.table.blocks) s.world.gc.per_block
-    s.world.flash.operations s.world.flash.cells s.world.places
+      s.world.flash.operations s.world.flash.cells s.world.places
   pub elsewhere : IsElsewhere s.world.gc.per_block s.waits safe.spare.block
   pub room : pages_with s s.waits ≤ page_capacity s.world
   pub in_range : (p : Pending) → s.waits ≡ Some p → p.page.0 < length s.world.places.pages
@@ -88,18 +85,18 @@ pub record IsPending (s : PageStoreView) (p : Pending) : Type 0 where
   pub cell : cell_at s.world.flash.cells p.at.0 ≡ closed bytes (spare_of p)
   pub size : length bytes ≡ PAGE_BYTES
   pub newest : (a : ℕ) (x : List ℕ) (spare : Spare)
-    → cell_at s.world.flash.cells a ≡ sealed x spare → spare.version < p.version
+      → cell_at s.world.flash.cells a ≡ sealed x spare → spare.version < p.version
   pub least : 1 ≤ p.version
   pub drawn : p.version < s.world.places.next_version
   pub block : p.at.0 / s.world.gc.per_block < length s.world.table.blocks
   pub place : p.at.0 < s.world.places.places
   pub used : p.at.0 % s.world.gc.per_block
-    < (block_at s.world.table (p.at.0 / s.world.gc.per_block)).next
+      < (block_at s.world.table (p.at.0 / s.world.gc.per_block)).next
   pub apart : IsNotVictim s.world.gc.phase (p.at.0 / s.world.gc.per_block)
   pub mapped : (block_at s.world.table (p.at.0 / s.world.gc.per_block)).mapped
-    < (block_at s.world.table (p.at.0 / s.world.gc.per_block)).next
+      < (block_at s.world.table (p.at.0 / s.world.gc.per_block)).next
   pub usable : ((block_at s.world.table (p.at.0 / s.world.gc.per_block)).state ≡ Open)
-    ⊎ ((block_at s.world.table (p.at.0 / s.world.gc.per_block)).state ≡ Full)
+      ⊎ ((block_at s.world.table (p.at.0 / s.world.gc.per_block)).state ≡ Full)
 
 abbrev pub IsWaiting : PageStoreView → Option Pending → Type 0
 IsWaiting s None = Unit {0}

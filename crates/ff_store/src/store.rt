@@ -272,7 +272,12 @@ impl<F: Flash> PageStore<F> {
     }
 
     // Programs a page, with the next version.
-    fn program(&mut self, page: PageNo, from: &PageBuf, place: WritePlace) -> Result<FlushStep, FlashStop>
+    fn program(
+        &mut self,
+        page: PageNo,
+        from: &PageBuf,
+        place: WritePlace,
+    ) -> Result<FlushStep, FlashStop>
         requires life { HasOperationsLeft self.old.world.flash }
         requires on { self.old.world.flash.on ≡ true }
         requires none { self.old.waits ≡ None }

@@ -17,7 +17,7 @@ read_next-requires-clause-ready g c =
     let stale = c.requires.victim.has.stale in
     let table = ready.fits.table in
     let begun = begun_ready _ c.args.victim c.destination-into.result c.known.ensures ready phase c.requires.victim.has.full
-      c.destination-into.ensures.has (omega arith) in
+    c.destination-into.ensures.has (omega arith) in
     rw (c.hold.ensures, c.clear.ensures.items) begun
 
 pub returns : goal.returns

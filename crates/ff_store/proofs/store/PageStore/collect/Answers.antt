@@ -1,6 +1,5 @@
-use Rattle.std.proofs.Common.{◌≡◌, ap, sym, ◌∙◌}
-use Rattle.ff_store.proofs.Basics.{collected_call, collected_same, collected_sound}
-use Rattle.ff_gc.specs.World.{World, world_of}
+use Rattle.std.proofs.Common.{ap, sym, ◌∙◌}
+use Rattle.ff_store.proofs.Basics.{collected_sound}
 use Rattle.ff_store.specs.PageStore.{PageStoreView}
 use Rattle.ff_store.proofs.store.PageStore.collect.Goals as goal
 

@@ -1,7 +1,5 @@
-use Rattle.std.proofs.Common.{◌≡◌, ◌<◌, ◌≤◌, length, ap, sym, subst, ◌∙◌}
-use Rattle.ff_flash.specs.Cells.{Programs}
+use Rattle.std.proofs.Common.{◌<◌, ◌≤◌, length, ap, sym, subst, ◌∙◌}
 use Rattle.ff_space.specs.BlockTable.{IsTableSound}
-use Rattle.ff_gc.specs.declared.counts.OperationKind.TheVariants.{Program}
 use Rattle.ff_store.proofs.Basics.{ready_in}
 use Rattle.ff_store.proofs.Flushing.{flushed_failed, flushed_off, flushed_ok, target_of}
 use Rattle.ff_store.specs.Calls.{IsWritePlace}

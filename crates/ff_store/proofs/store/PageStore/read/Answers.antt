@@ -1,4 +1,4 @@
-use Rattle.std.proofs.Common.{◌≡◌, ap, ◌∙◌}
+use Rattle.std.proofs.Common.{ap, ◌∙◌}
 use Rattle.ff_store.proofs.Basics.{read_sound, reads_same}
 use Rattle.ff_store.specs.PageStore.{PageStoreView}
 use Rattle.ff_gc.specs.declared.counts.OperationKind.TheVariants.{Read}

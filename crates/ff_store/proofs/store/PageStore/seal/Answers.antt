@@ -1,5 +1,4 @@
-use Rattle.std.proofs.Common.{◌≡◌, refl, ap, sym, ◌∙◌}
-use Rattle.ff_space.specs.BlockTable.{TableView, block_at}
+use Rattle.std.proofs.Common.{refl, ap, sym, ◌∙◌}
 use Rattle.ff_space.specs.declared.block.BlockState.TheVariants.{Waiting}
 use Rattle.ff_map.specs.PageMap.{mapping_of}
 use Rattle.ff_store.proofs.Settled.{old_counted, old_within, settled_failed, settled_off, settled_ok}
@@ -23,7 +22,7 @@ add_mapped-requires-clause-used g c =
     let waits = ap (λ (s : PageStoreView). s.waits) c.self.view_is ∙ c.requires.waits in
     let w = pending_in _ c.args.pending c.self.invariant.sound on waits in
     let counted = dropped_counted _ _ (mapping_of c.self.inside.places c.args.pending.page)
-      (old_within _ c.args.pending c.self.invariant.sound on) in
+    (old_within _ c.args.pending c.self.invariant.sound on) in
     rw (c.drop_old.ensures, c.self.invariant.per_block_is)
     (λ is. usable_not _ Waiting w.usable (λ e. cc) (λ e. cc) (sym (counted.state _) ∙ is))
 
