@@ -4,12 +4,12 @@ use Rattle.std.specs.List.{enumerate_from, flat_map}
 use Rattle.std.proofs.lemmas.List.{append-nil, append_assoc}
 use Rattle.ff_model.specs.declared.op.Op.{Op}
 use Rattle.ff_gen.specs.Calls.{call_from, calls_from}
-use Rattle.ff_gen.specs.Generated.{generated, mark_rows, rows_of}
-use Rattle.ff_gen.specs.declared.row.Row.{Row}
+use Rattle.ff_gen.specs.Generated.{generated, mark_rows, rows_at}
+use Rattle.ff_trace.specs.declared.row.Row.{Row}
 
 -- the rows of so many calls from a number on, drawn from a state
 abbrev pub rows_left : ℕ → ℕ → ℕ → List Row
-rows_left count at state = flat_map rows_of (enumerate_from at (calls_from count state))
+rows_left count at state = flat_map rows_at (enumerate_from at (calls_from count state))
 
 calls_from-none : (count state : ℕ) → count ≡ 0 → calls_from count state ≡ []
 unfolding calls_from
@@ -33,21 +33,21 @@ unfolding generated
 rows-start number rows marks = record { whole = rw marks }
 
 pub rows-more : (number at state next : ℕ) (rows more : List Row) → HasRows number at state rows → at < 20000
-    → more ≡ rows ++ rows_of (at, (call_from state).op) → next ≡ (call_from state).state → HasRows number (at + 1) next more
+    → more ≡ rows ++ rows_at (at, (call_from state).op) → next ≡ (call_from state).state → HasRows number (at + 1) next more
 rows-more number at state next rows more has within pushed behind =
     let left : 20000 - at ≡ (20000 - (at + 1)) + 1 = omega arith in
     let calls = calls_from-more (20000 - at) (20000 - (at + 1)) state left in
-    let step : rows_left (20000 - at) at state ≡ rows_of (at, (call_from state).op) ++ rows_left (20000 - (at + 1)) (at + 1) (call_from state).state =
-    ap (λ (ops : List Op). flat_map rows_of (enumerate_from at ops)) calls in
+    let step : rows_left (20000 - at) at state ≡ rows_at (at, (call_from state).op) ++ rows_left (20000 - (at + 1)) (at + 1) (call_from state).state =
+    ap (λ (ops : List Op). flat_map rows_at (enumerate_from at ops)) calls in
     record {
       whole = ap (λ (s : ℕ). more ++ rows_left (20000 - (at + 1)) (at + 1) s) behind
           ∙ ap (λ (start : List Row). start ++ rows_left (20000 - (at + 1)) (at + 1) (call_from state).state) pushed
-          ∙ append_assoc rows (rows_of (at, (call_from state).op)) (rows_left (20000 - (at + 1)) (at + 1) (call_from state).state) ∙ sym (ap (λ (rest : List Row). rows ++ rest) step) ∙ has.whole;
+          ∙ append_assoc rows (rows_at (at, (call_from state).op)) (rows_left (20000 - (at + 1)) (at + 1) (call_from state).state) ∙ sym (ap (λ (rest : List Row). rows ++ rest) step) ∙ has.whole;
     }
 
 pub rows-end : (number at state : ℕ) (rows : List Row) → HasRows number at state rows → 20000 ≤ at → rows ≡ generated number
 rows-end number at state rows has past =
     let none = calls_from-none (20000 - at) state (omega arith) in
-    sym (append-nil rows) ∙ sym (ap (λ (ops : List Op). rows ++ flat_map rows_of (enumerate_from at ops)) none) ∙ has.whole
+    sym (append-nil rows) ∙ sym (ap (λ (ops : List Op). rows ++ flat_map rows_at (enumerate_from at ops)) none) ∙ has.whole
 
 pub ruleset all_rows = (rows-start, rows-more, rows-end)

@@ -3,7 +3,7 @@ use Rattle.std.specs.Prelude.{ℕ, zero, suc, ◌+◌, ◌*◌, ◌/◌, ◌%◌
 use Rattle.std.specs.Int.{to_be_bytes, w64}
 use Rattle.ff_model.specs.declared.op.Op.{Op}
 use Rattle.ff_model.specs.declared.op.Op.TheVariants.{Load, Store, Verify}
-use Rattle.ff_gen.specs.Draws.{next_state, number_of}
+use Rattle.ff_gen.specs.Draws.{next_state, drawn_number}
 
 -- a call, and the state behind its draws
 pub record Drawn : Type 0 where
@@ -11,12 +11,12 @@ pub record Drawn : Type 0 where
   pub state : ℕ
 
 -- a page: one of the first 16 three times of four, else one of 256
-abbrev pub page_of : ℕ → ℕ
-page_of number = if number % 4 == 0 then number / 4 % 256 else number / 4 % 16
+abbrev pub drawn_page : ℕ → ℕ
+drawn_page number = if number % 4 == 0 then number / 4 % 256 else number / 4 % 16
 
 -- the address of a line of a page
 abbrev pub address_of : ℕ → ℕ → ℕ
-address_of page line = page_of page * 4096 + line % 64 * 64
+address_of page line = drawn_page page * 4096 + line % 64 * 64
 
 -- an access, from the state behind its kind: the page and then the line are drawn, and the bytes of a store
 abbrev pub access_from : ℕ → ℕ → Drawn
@@ -24,7 +24,7 @@ access_from kind state =
     let first = next_state state in
     let second = next_state first in
     let third = next_state second in
-    let at = address_of (number_of first) (number_of second) in
+    let at = address_of (drawn_number first) (drawn_number second) in
     if nat_le kind 8 then record { op = Load at 8; state = second }
     else record { op = Store at (to_be_bytes w64 third); state = third }
 
@@ -35,7 +35,7 @@ call_of_kind kind state =
 
 -- the next call: its kind is drawn first
 abbrev pub call_from : ℕ → Drawn
-call_from state = call_of_kind (number_of (next_state state) % 16) (next_state state)
+call_from state = call_of_kind (drawn_number (next_state state) % 16) (next_state state)
 
 -- so many calls, one after the other
 unfoldable pub calls_from : ℕ → ℕ → List Op

@@ -6,5 +6,5 @@ abbrev pub next_state : ℕ → ℕ
 next_state state = (6364136223846793005 * state + 1442695040888963407) % 2 ^ 64
 
 -- the number that a new state gives
-abbrev pub number_of : ℕ → ℕ
-number_of state = state / 2 ^ 33
+abbrev pub drawn_number : ℕ → ℕ
+drawn_number state = state / 2 ^ 33

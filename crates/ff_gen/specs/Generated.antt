@@ -5,8 +5,8 @@ use Rattle.ff_model.specs.declared.counts.Kind.TheVariants.{Promote, Evict, Coll
 use Rattle.ff_model.specs.declared.op.Op.{Op}
 use Rattle.ff_model.specs.declared.op.Op.TheVariants.{Mark}
 use Rattle.ff_gen.specs.Calls.{calls_from}
-use Rattle.ff_gen.specs.declared.row.Row.{Row}
-use Rattle.ff_gen.specs.declared.row.Row.TheVariants.{Call, Turns}
+use Rattle.ff_trace.specs.declared.row.Row.{Row}
+use Rattle.ff_trace.specs.declared.row.Row.TheVariants.{Call, Turns}
 
 -- the turns behind each sixteenth call
 abbrev pub turn_rows : List Row
@@ -17,8 +17,8 @@ abbrev pub turns_behind : ℕ → List Row
 turns_behind number = if number % 16 == 15 then turn_rows else []
 
 -- the call of a number, by one of four callers in turn, and the turns behind it
-abbrev pub rows_of : ℕ × Op → List Row
-rows_of (number, op) = Call (record { 0 = number % 4 }) op ∷ turns_behind number
+abbrev pub rows_at : ℕ × Op → List Row
+rows_at (number, op) = Call (record { 0 = number % 4 }) op ∷ turns_behind number
 
 -- a caller marks a page of its own
 abbrev pub mark_row : ℕ → Row
@@ -30,4 +30,4 @@ mark_rows = mark_row 0 ∷ mark_row 1 ∷ mark_row 2 ∷ mark_row 3 ∷ []
 
 -- the rows that a number makes
 unfoldable pub generated : ℕ → List Row
-generated number = mark_rows ++ flat_map rows_of (enumerate_from 0 (calls_from 20000 number))
+generated number = mark_rows ++ flat_map rows_at (enumerate_from 0 (calls_from 20000 number))

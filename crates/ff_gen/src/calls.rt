@@ -1,6 +1,6 @@
 // The calls that are drawn.
 ghost use Rattle.std.specs.Prelude.{◌≡◌, ◌<◌};
-ghost use Rattle.ff_gen.specs.Calls.{access_from, address_of, call_from, call_of_kind, page_of};
+ghost use Rattle.ff_gen.specs.Calls.{access_from, address_of, call_from, call_of_kind, drawn_page};
 
 use crate::draws::Draws;
 use ff_model::{Op, Piece};
@@ -46,11 +46,11 @@ fn access(draws: &mut Draws, kind: u64) -> Op
 fn address(page: u64, line: u64) -> u32
     ensures { result ≡ address_of page line }
 {
-    (page_of(page) * 4096 + line % 64 * 64) as u32
+    (drawn_page(page) * 4096 + line % 64 * 64) as u32
 }
 
-fn page_of(number: u64) -> u64
-    ensures page { result ≡ page_of number }
+fn drawn_page(number: u64) -> u64
+    ensures page { result ≡ drawn_page number }
     ensures within { result < 256 }
 {
     if number % 4 == 0 {

@@ -1,6 +1,6 @@
 // Numbers drawn one after the other: a linear congruential generator with 64 bits of state.
 ghost use Rattle.std.specs.Prelude.{◌≡◌};
-ghost use Rattle.ff_gen.specs.Draws.{next_state, number_of};
+ghost use Rattle.ff_gen.specs.Draws.{next_state, drawn_number};
 
 const MULTIPLIER: u64 = 6_364_136_223_846_793_005;
 
@@ -16,7 +16,7 @@ impl Draws {
     /// Draws a number below 2^31.
     pub(crate) fn draw(&mut self) -> u64
         ensures state { self.new.state ≡ next_state self.old.state }
-        ensures number { result ≡ number_of (next_state self.old.state) }
+        ensures number { result ≡ drawn_number (next_state self.old.state) }
     {
         self.state = next_state(self.state);
         self.state / (1 << 33)

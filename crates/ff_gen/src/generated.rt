@@ -1,13 +1,13 @@
 // The rows that a number makes.
 ghost use Rattle.std.specs.Prelude.{◌≡◌, ◌<◌, ◌++◌, ◌∷◌, [], IfOk, OnOk};
 ghost use Rattle.ff_gen.specs.Calls.{call_from};
-ghost use Rattle.ff_gen.specs.Generated.{generated, mark_row, mark_rows, rows_of, turn_rows, turns_behind};
+ghost use Rattle.ff_gen.specs.Generated.{generated, mark_row, mark_rows, rows_at, turn_rows, turns_behind};
 
 use crate::calls::call;
 use crate::draws::Draws;
-use crate::row::Row;
 use ff_base::{Caller, NoMemory, PageNo};
 use ff_model::{Kind, Op};
+use ff_trace::Row;
 use std::alloc::Global;
 
 // How many calls are drawn.
@@ -59,7 +59,7 @@ fn mark_row(caller: u16) -> Row
 
 fn push_rows(rows: &mut Vec<Row>, number: u32, draws: &mut Draws) -> Result<(), NoMemory>
     ensures rows { OnOk result
-        (rows.new.items ≡ rows.old.items ++ rows_of (number, (call_from draws.old.state).op)) }
+        (rows.new.items ≡ rows.old.items ++ rows_at (number, (call_from draws.old.state).op)) }
     ensures state { OnOk result (draws.new.state ≡ (call_from draws.old.state).state) }
 {
     rows.push(Row::Call {

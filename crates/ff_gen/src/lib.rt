@@ -4,9 +4,7 @@
 mod calls;
 mod draws;
 mod generated;
-mod row;
 #[cfg(test)]
 mod tests;
 
 pub use generated::generate;
-pub use row::Row;

@@ -1,6 +1,7 @@
 use super::*;
 use ff_base::{Caller, PageNo};
 use ff_model::{Kind, Op, Piece};
+use ff_trace::Row;
 use std::test::Fail;
 
 fn call(caller: u16, op: Op) -> Row {

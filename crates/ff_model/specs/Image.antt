@@ -17,12 +17,12 @@ abbrev pub held_page : Content → ℕ → Option (List ℕ)
 held_page image page = unwrap_or (slice_get image.pages page) None
 
 -- the image with these bytes held for a page
-abbrev pub with_page : Content → ℕ → List ℕ → Content
-with_page image page bytes = record image { pages = slice_set image.pages page (Some bytes) }
+abbrev pub with_held : Content → ℕ → List ℕ → Content
+with_held image page bytes = record image { pages = slice_set image.pages page (Some bytes) }
 
 -- the image with these lines of a page marked, and no other line of it
-abbrev pub with_marks : Content → ℕ → ℕ → Content
-with_marks image page lines = record image { marks = slice_set image.marks page lines }
+abbrev pub with_marked : Content → ℕ → ℕ → Content
+with_marked image page lines = record image { marks = slice_set image.marks page lines }
 
 -- a byte of a page, and zero where the page isn't held
 abbrev pub byte_in : Option (List ℕ) → ℕ → ℕ

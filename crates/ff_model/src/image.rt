@@ -1,7 +1,7 @@
 // What a remount finds: held pages and marked lines.
 ghost use Rattle.std.specs.Prelude.{◌≡◌, ◌<◌, ◌↔◌, IfOk, OnOk, OnErr, IsTrue, IsSome, length, slice_index, vec_len};
 ghost use Rattle.std.specs.Option.{option_copied};
-ghost use Rattle.ff_model.specs.Image.{byte_at, byte_in, empty_content, held_page, line_in, with_marks, with_page};
+ghost use Rattle.ff_model.specs.Image.{byte_at, byte_in, empty_content, held_page, line_in, with_marked, with_held};
 
 use ff_base::{LINE_BYTES, Marks, NoMemory, PAGE_BYTES, PageBuf, PageNo};
 use std::alloc::Global;
@@ -57,7 +57,7 @@ impl Image {
     /// Holds a page with these bytes, in place of those that it held. Want of memory leaves the image as it was.
     pub fn put(&mut self, page: PageNo, from: &PageBuf) -> Result<(), NoMemory>
         requires { page.0 < length self.old.pages }
-        ensures ok { OnOk result (self.new ≡ with_page self.old page.0 from.now) }
+        ensures ok { OnOk result (self.new ≡ with_held self.old page.0 from.now) }
         ensures err { OnErr result (self.new ≡ self.old) }
     {
         let held = from.copy(self.alloc)?;
@@ -68,7 +68,7 @@ impl Image {
     /// Marks these lines of the page, bit i for line i, and no other of it.
     pub fn set_marks(&mut self, page: PageNo, lines: u64)
         requires { page.0 < length self.old.pages }
-        ensures { self.new ≡ with_marks self.old page.0 lines }
+        ensures { self.new ≡ with_marked self.old page.0 lines }
     {
         self.marks.set_lines(page, lines);
     }

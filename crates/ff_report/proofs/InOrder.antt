@@ -37,13 +37,7 @@ Wrote-failed e a b i j p q text first is =
 pub Wrote_none : (a : Option (List ℕ)) (i : ℕ) → Wrote (Ok tt) a a i i []
 Wrote_none a i = record { ok = Appends-nil a; err = tt; faults = refl }
 
-pub ruleset in_order = (Wrote-then, Wrote-failed)
-
--- in a loop over a list: no piece is written yet
-pub Wrote-start : {X : Type 0} (f : X → List ℕ) (xs : List X) (a : Option (List ℕ)) (i : ℕ) → Wrote (Ok tt) a a i i (flat_map f (take 0 xs))
-Wrote-start f xs a i = record { ok = Appends-nil a; err = tt; faults = refl }
-
--- one piece more
+-- in a loop over a list: one piece more
 pub Wrote-more : {X : Type 0} (f : X → List ℕ) (xs : List X) (n : ℕ) (x : X) (a b c : Option (List ℕ)) (i j k : ℕ) (piece : List ℕ)
     → Wrote (Ok tt) a b i j (flat_map f (take n xs)) → Wrote (Ok tt) b c j k piece → piece ≡ f x → n < length xs → x ≡ get_or xs n x
     → Wrote (Ok tt) a c i k (flat_map f (take (n + 1) xs))

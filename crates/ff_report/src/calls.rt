@@ -10,7 +10,6 @@ use ff_io::{Failed, Sink};
 use ff_model::{Entry, History};
 
 /// Writes the text of a session that has nothing but its history, the `at`th from 0.
-#[tactic(auto, using(crate::proofs::InOrder::in_order))]
 pub fn write_history<K: Sink>(sink: &mut K, at: u32, history: &History) -> Result<(), Failed>
     ensures { Wrote result (K.written sink.old) (K.written sink.new)
         (K.faults sink.old) (K.faults sink.new) (history_text at history.now.entries) }
@@ -22,7 +21,6 @@ pub fn write_history<K: Sink>(sink: &mut K, at: u32, history: &History) -> Resul
 }
 
 /// Writes the line that opens a session, and a line an entry.
-#[tactic(auto, using(crate::proofs::InOrder::in_order))]
 pub fn write_calls<K: Sink>(sink: &mut K, at: u32, entries: &[Entry]) -> Result<(), Failed>
     ensures { Wrote result (K.written sink.old) (K.written sink.new)
         (K.faults sink.old) (K.faults sink.new) (calls_text at entries.now) }

@@ -27,7 +27,6 @@ pub fn write_image<K: Sink>(sink: &mut K, image: &Remounted<'_>) -> Result<(), F
     }
 }
 
-#[tactic(auto, using(crate::proofs::InOrder::in_order))]
 fn write_found<K: Sink>(sink: &mut K, image: &Image) -> Result<(), Failed>
     ensures { Wrote result (K.written sink.old) (K.written sink.new)
         (K.faults sink.old) (K.faults sink.new) (image_text (Found image.now)) }

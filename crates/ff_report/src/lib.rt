@@ -11,6 +11,8 @@ mod line;
 mod parts;
 mod session;
 mod summary;
+#[cfg(test)]
+mod tests;
 mod writing;
 
 pub use calls::write_history;

@@ -8,7 +8,8 @@ use ff_model::PIECE_BYTES;
 use itoa::Buffer;
 use std::marker::Model;
 
-/// Room for the longest line: a store of a whole piece that is answered by a whole piece takes under 300 bytes.
+/// Room for the longest line: a store of a whole piece that is answered by a whole piece takes less
+/// than 300 bytes.
 pub const LINE_ROOM: usize = 320;
 
 /// A line of text that is being spelled. A contract sees it as its bytes.
@@ -35,6 +36,7 @@ impl Line {
         }
     }
 
+    /// Its bytes.
     pub fn as_slice(&self) -> &[u8]
         ensures { result.now ≡ self.now }
     {

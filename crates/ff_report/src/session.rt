@@ -18,7 +18,6 @@ use ff_io::{Failed, Sink};
 
 /// Writes the text of a session, the `at`th from 0: its calls, its numbers, and the marks and
 /// bytes of its image.
-#[tactic(auto, using(crate::proofs::InOrder::in_order))]
 pub fn write_session<K: Sink>(
     sink: &mut K,
     at: u32,
@@ -33,7 +32,6 @@ pub fn write_session<K: Sink>(
     }
 }
 
-#[tactic(auto, using(crate::proofs::InOrder::in_order))]
 fn write_rest<K: Sink>(sink: &mut K, session: &SessionParts<'_>) -> Result<(), Failed>
     ensures { Wrote result (K.written sink.old) (K.written sink.new)
         (K.faults sink.old) (K.faults sink.new)
@@ -46,7 +44,6 @@ fn write_rest<K: Sink>(sink: &mut K, session: &SessionParts<'_>) -> Result<(), F
     }
 }
 
-#[tactic(auto, using(crate::proofs::InOrder::in_order))]
 fn write_image_and_end<K: Sink>(sink: &mut K, image: &Remounted<'_>) -> Result<(), Failed>
     ensures { Wrote result (K.written sink.old) (K.written sink.new)
         (K.faults sink.old) (K.faults sink.new)

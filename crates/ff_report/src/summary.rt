@@ -12,7 +12,6 @@ use ff_io::{Failed, Sink};
 
 /// Writes the summary of a session whose trace was generated from the number: how many calls were
 /// answered, and the session's numbers.
-#[tactic(auto, using(crate::proofs::InOrder::in_order))]
 pub fn write_summary<K: Sink>(
     sink: &mut K,
     number: u32,
@@ -27,7 +26,6 @@ pub fn write_summary<K: Sink>(
     }
 }
 
-#[tactic(auto, using(crate::proofs::InOrder::in_order))]
 fn write_numbers_and_end<K: Sink>(sink: &mut K, session: &SessionParts<'_>) -> Result<(), Failed>
     ensures { Wrote result (K.written sink.old) (K.written sink.new)
         (K.faults sink.old) (K.faults sink.new)

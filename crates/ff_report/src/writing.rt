@@ -5,6 +5,7 @@ ghost use Rattle.ff_report.specs.Wrote.{Wrote};
 use crate::Line;
 use ff_io::{Failed, Sink};
 
+/// Writes a line by one write.
 pub fn write_line<K: Sink>(sink: &mut K, line: &Line) -> Result<(), Failed>
     ensures { Wrote result (K.written sink.old) (K.written sink.new)
         (K.faults sink.old) (K.faults sink.new) line.now }
@@ -12,6 +13,7 @@ pub fn write_line<K: Sink>(sink: &mut K, line: &Line) -> Result<(), Failed>
     sink.write(line.as_slice())
 }
 
+/// Writes lines, each by one write.
 pub fn write_lines<K: Sink>(sink: &mut K, lines: &[Line]) -> Result<(), Failed>
     ensures { Wrote result (K.written sink.old) (K.written sink.new)
         (K.faults sink.old) (K.faults sink.new) (lines_text lines.now) }

@@ -4,7 +4,7 @@ use Rattle.std.specs.List.{list_all, list_any}
 use Rattle.std.specs.Str.{bytes_eq}
 use Rattle.toml.specs.Data.{Data, table, Members, get_member}
 use Rattle.ff_settings.specs.Names.{text_of, key_names, cut_keys}
-use Rattle.ff_settings.specs.Values.{keys_in, values_of}
+use Rattle.ff_settings.specs.Values.{keys_in, items_in}
 
 -- a key of the document
 abbrev pub is_key : Bool → List ℕ → Bool
@@ -23,4 +23,4 @@ has_cut_keys other = true
 abbrev pub has_known_keys : Bool → Members → Bool
 has_known_keys threads members =
     list_all (is_key threads) (keys_in members)
-    && list_all has_cut_keys (values_of (get_member (codes "cut") members))
+    && list_all has_cut_keys (items_in (get_member (codes "cut") members))

@@ -11,7 +11,7 @@ use Rattle.ff_settings.specs.Keys.{has_known_keys}
 use Rattle.ff_settings.specs.Kinds.{has_kind}
 use Rattle.ff_settings.specs.Names.{setting_names}
 use Rattle.ff_settings.specs.SettingsView.{SettingsView}
-use Rattle.ff_settings.specs.Values.{number_of, number_or, short, values_of}
+use Rattle.ff_settings.specs.Values.{whole_number_of, number_or, short, items_in}
 use Rattle.ff_settings.specs.declared.given.Settings.{Settings}
 use Rattle.ff_settings.specs.declared.given.BadSettings.{BadSettings}
 use Rattle.ff_settings.specs.declared.given.BadSettings.TheVariants as bad
@@ -59,8 +59,8 @@ cut_of other = record { at = 0; mask = 0; arrive = 0 }
 -- the plan that a document gives
 abbrev pub plan_in : Members → Planned
 plan_in members = record {
-  fail = map (λ value. number_or 0 (Some value)) (values_of (get_member (codes "fail") members));
-  cuts = map cut_of (values_of (get_member (codes "cut") members));
+  fail = map (λ value. number_or 0 (Some value)) (items_in (get_member (codes "fail") members));
+  cuts = map cut_of (items_in (get_member (codes "cut") members));
 }
 
 -- the settings that a document gives
@@ -68,7 +68,7 @@ abbrev pub settings_in : Members → SettingsView
 settings_in members = record {
   geometry = geometry_in members;
   plan = plan_in members;
-  power_event = number_of (get_member (codes "power_event") members);
+  power_event = whole_number_of (get_member (codes "power_event") members);
   power_arrive = number_or 0 (get_member (codes "power_arrive") members);
 }
 

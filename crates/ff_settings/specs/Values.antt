@@ -13,9 +13,9 @@ list_of no_items = []
 list_of (item value later) = value ∷ list_of later
 
 -- the values of a value that is an array, and none of any other
-abbrev pub values_of : Option Data → List Data
-values_of (Some (array items)) = list_of items
-values_of other = []
+abbrev pub items_in : Option Data → List Data
+items_in (Some (array items)) = list_of items
+items_in other = []
 
 -- a whole number as one of 64 bits: a negative one counts as the greatest, which no bound allows
 abbrev pub wide : ℤ → ℕ
@@ -27,9 +27,9 @@ abbrev pub short : ℕ → ℕ
 short n = min n (2 ^ 32 - 1)
 
 -- the whole number that a value is, if there is a value and it is one
-abbrev pub number_of : Option Data → Option ℕ
-number_of value = option_map wide (option_and_then as_integer value)
+abbrev pub whole_number_of : Option Data → Option ℕ
+whole_number_of value = option_map wide (option_and_then as_integer value)
 
 -- the same, and a default where there is none
 abbrev pub number_or : ℕ → Option Data → ℕ
-number_or default value = unwrap_or (number_of value) default
+number_or default value = unwrap_or (whole_number_of value) default

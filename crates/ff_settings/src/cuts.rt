@@ -8,10 +8,10 @@ ghost use Rattle.ff_settings.specs.Given.{as_cut, as_cuts, planned_cut};
 ghost use Rattle.ff_settings.specs.Kinds.{is_cut};
 ghost use Rattle.ff_settings.specs.Names.{cut_keys};
 ghost use Rattle.ff_settings.specs.Settings.{cut_in, cut_of};
-ghost use Rattle.ff_settings.specs.Values.{number_of};
+ghost use Rattle.ff_settings.specs.Values.{whole_number_of};
 
 use crate::document::value_at;
-use crate::values::{number_of, number_or, short};
+use crate::values::{number_or, short, whole_number_of};
 use ff_flash::CutAt;
 use std::alloc::{AllocError, Global};
 use toml::{Table, Value};
@@ -42,15 +42,15 @@ fn is_cut(value: &Value) -> bool
 
 fn has_cut_numbers(table: &Table) -> bool
     ensures { result
-        ≡ list_all (λ key. is_some (number_of (get_member key (table_view table.now)))) cut_keys }
+        ≡ list_all (λ key. is_some (whole_number_of (get_member key (table_view table.now)))) cut_keys }
 {
     has_number(table, "at") && has_number(table, "mask") && has_number(table, "arrive")
 }
 
 fn has_number(table: &Table, key: &str) -> bool
-    ensures { result ≡ is_some (number_of (get_member key.now (table_view table.now))) }
+    ensures { result ≡ is_some (whole_number_of (get_member key.now (table_view table.now))) }
 {
-    number_of(value_at(table, key)).is_some()
+    whole_number_of(value_at(table, key)).is_some()
 }
 
 /// The cuts of a list.

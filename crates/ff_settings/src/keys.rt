@@ -10,14 +10,14 @@ ghost use Rattle.ff_settings.specs.Names.{text_of};
 
 use crate::document::value_at;
 use crate::names::{SettingName, key_names};
-use crate::values::values_of;
+use crate::values::items_in;
 use toml::{Table, Value};
 
 /// Whether every key of the document and of each of its cuts is known.
 pub(crate) fn has_known_keys(table: &Table, threads: bool) -> bool
     ensures { result ≡ has_known_keys threads (table_view table.now) }
 {
-    has_keys(table, threads) && have_cut_keys(values_of(value_at(table, "cut")))
+    has_keys(table, threads) && have_cut_keys(items_in(value_at(table, "cut")))
 }
 
 fn has_keys(table: &Table, threads: bool) -> bool

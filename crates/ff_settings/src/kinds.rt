@@ -2,13 +2,13 @@
 
 ghost use Rattle.std.specs.Prelude.{◌≡◌, option_map};
 ghost use Rattle.toml.specs.View.{table_view, view};
-ghost use Rattle.ff_settings.specs.Kinds.{has_kind, is_cut, is_number, may_be_list};
+ghost use Rattle.ff_settings.specs.Kinds.{has_kind, is_cut, is_whole_number, may_be_list};
 ghost use Rattle.ff_settings.specs.Settings.{first_of_other_kind};
 
 use crate::cuts::are_cuts;
 use crate::document::value_at;
 use crate::names::{SettingName, setting_names};
-use crate::values::{are_numbers, may_be_array, may_be_number, values_of};
+use crate::values::{are_numbers, items_in, may_be_array, may_be_number};
 use toml::{Table, Value};
 
 /// The first setting whose value has another kind.
@@ -34,14 +34,14 @@ fn has_kind(table: &Table, name: SettingName) -> bool
 
 #[tactic(auto, using(crate::proofs::Lists::viewed))]
 fn may_be_numbers(value: Option<&Value>) -> bool
-    ensures { result ≡ may_be_list is_number (option_map (λ v. view v.now) value.entry) }
+    ensures { result ≡ may_be_list is_whole_number (option_map (λ v. view v.now) value.entry) }
 {
-    may_be_array(value) && are_numbers(values_of(value))
+    may_be_array(value) && are_numbers(items_in(value))
 }
 
 #[tactic(auto, using(crate::proofs::Lists::viewed))]
 fn may_be_cuts(value: Option<&Value>) -> bool
     ensures { result ≡ may_be_list is_cut (option_map (λ v. view v.now) value.entry) }
 {
-    may_be_array(value) && are_cuts(values_of(value))
+    may_be_array(value) && are_cuts(items_in(value))
 }

@@ -14,7 +14,7 @@ use crate::document::{document, value_at};
 use crate::given::{BadSettings, Settings};
 use crate::keys::has_known_keys;
 use crate::kinds::first_of_other_kind;
-use crate::values::{number_of, number_or, numbers_of, short, values_of};
+use crate::values::{items_in, number_or, numbers_of, short, whole_number_of};
 use ff_base::Geometry;
 use ff_flash::Plan;
 use std::alloc::{AllocError, Global};
@@ -152,19 +152,19 @@ fn read(alloc: Global, table: &Table) -> Result<Given, AllocError>
 fn fail_of(alloc: Global, table: &Table) -> Result<Vec<u64>, AllocError>
     ensures { IfOk result (λ fail. fail.items ≡ (plan_in (table_view table.now)).fail) }
 {
-    numbers_of(alloc, values_of(value_at(table, "fail")))
+    numbers_of(alloc, items_in(value_at(table, "fail")))
 }
 
 fn cut_list_of(alloc: Global, table: &Table) -> Result<Vec<WideCut>, AllocError>
     ensures { IfOk result (λ cuts. as_cuts cuts.items ≡ (plan_in (table_view table.now)).cuts) }
 {
-    cuts_of(alloc, values_of(value_at(table, "cut")))
+    cuts_of(alloc, items_in(value_at(table, "cut")))
 }
 
 fn power_event_of(table: &Table) -> Option<u64>
     ensures { result ≡ (settings_in (table_view table.now)).power_event }
 {
-    number_of(value_at(table, "power_event"))
+    whole_number_of(value_at(table, "power_event"))
 }
 
 fn power_arrive_of(table: &Table) -> u64

@@ -3,15 +3,15 @@
 ghost use Rattle.std.specs.Prelude.{◌≡◌, IfOk, Some, map, option_map};
 ghost use Rattle.std.specs.List.{list_all};
 ghost use Rattle.toml.specs.View.{view};
-ghost use Rattle.ff_settings.specs.Kinds.{is_array, is_number, may_be};
-ghost use Rattle.ff_settings.specs.Values.{number_of, number_or, short, values_of, wide};
+ghost use Rattle.ff_settings.specs.Kinds.{is_array, is_whole_number, may_be};
+ghost use Rattle.ff_settings.specs.Values.{whole_number_of, number_or, short, items_in, wide};
 
 use std::alloc::{AllocError, Global};
 use toml::Value;
 
 /// The whole number that a value is, if there is a value and it is one. A negative one counts as the greatest.
-pub(crate) fn number_of(value: Option<&Value>) -> Option<u64>
-    ensures { result ≡ number_of (option_map (λ v. view v.now) value.entry) }
+pub(crate) fn whole_number_of(value: Option<&Value>) -> Option<u64>
+    ensures { result ≡ whole_number_of (option_map (λ v. view v.now) value.entry) }
 {
     match value {
         Some(value) => integer_of(value),
@@ -20,7 +20,7 @@ pub(crate) fn number_of(value: Option<&Value>) -> Option<u64>
 }
 
 fn integer_of(value: &Value) -> Option<u64>
-    ensures { result ≡ number_of (Some (view value.now)) }
+    ensures { result ≡ whole_number_of (Some (view value.now)) }
 {
     match value.as_integer() {
         Some(number) => Some(wide(number)),
@@ -38,7 +38,7 @@ fn wide(number: i64) -> u64
 pub(crate) fn number_or(value: Option<&Value>, default: u64) -> u64
     ensures { result ≡ number_or default (option_map (λ v. view v.now) value.entry) }
 {
-    number_of(value).unwrap_or(default)
+    whole_number_of(value).unwrap_or(default)
 }
 
 /// A number of 32 bits. A greater one counts as the greatest.
@@ -49,8 +49,8 @@ pub(crate) fn short(number: u64) -> u32
 }
 
 /// The values of a value that is an array, and none of any other.
-pub(crate) fn values_of(value: Option<&Value>) -> &[Value]
-    ensures { map view result.now ≡ values_of (option_map (λ v. view v.now) value.entry) }
+pub(crate) fn items_in(value: Option<&Value>) -> &[Value]
+    ensures { map view result.now ≡ items_in (option_map (λ v. view v.now) value.entry) }
 {
     match value {
         Some(value) => items_of(value),
@@ -59,7 +59,7 @@ pub(crate) fn values_of(value: Option<&Value>) -> &[Value]
 }
 
 fn items_of(value: &Value) -> &[Value]
-    ensures { map view result.now ≡ values_of (Some (view value.now)) }
+    ensures { map view result.now ≡ items_in (Some (view value.now)) }
 {
     match value {
         Value::Array(values) => values,
@@ -69,7 +69,7 @@ fn items_of(value: &Value) -> &[Value]
 
 /// Whether a value is missing, or a whole number.
 pub(crate) fn may_be_number(value: Option<&Value>) -> bool
-    ensures { result ≡ may_be is_number (option_map (λ v. view v.now) value.entry) }
+    ensures { result ≡ may_be is_whole_number (option_map (λ v. view v.now) value.entry) }
 {
     match value {
         Some(value) => value.is_integer(),
@@ -98,7 +98,7 @@ fn is_array(value: &Value) -> bool
 
 /// Whether all values are whole numbers.
 pub(crate) fn are_numbers(values: &[Value]) -> bool
-    ensures { result ≡ list_all (λ value. is_number (view value)) values.now }
+    ensures { result ≡ list_all (λ value. is_whole_number (view value)) values.now }
 {
     values.iter().all(|value| value.is_integer())
 }

@@ -1,2 +1,4 @@
+pub mod Accepted
 pub mod Entered
+pub mod Load
 pub mod Simple

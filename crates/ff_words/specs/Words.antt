@@ -45,10 +45,6 @@ HasNoNumber given = (number : ℕ) → HasNumber given number → ⊥
 abbrev pub IsNoCommand : Option (Text × List Row) → Type 0
 IsNoCommand entered = (command : Command) → IsEntered entered command → ⊥
 
--- the words enter no command
-abbrev pub EnterNone : List Text → Type 0
-EnterNone words = IsNoCommand (subcommand_of flatflash words)
-
 -- `clap` accepts the words and enters this command
 pub record AskFor (words : List Text) (command : Command) : Type 0 where
   pub accepted : fault_of flatflash words ≡ []

@@ -1,9 +1,9 @@
 // Reads the words of the command line.
-ghost use Rattle.std.specs.Prelude.{◌≡◌, ◌⊎◌, [], IfOk, IfErr, MatchOption, Some, codes, map, string_bytes};
+ghost use Rattle.std.specs.Prelude.{◌≡◌, [], IfOk, IfErr, MatchOption, Some, codes, map, string_bytes};
 ghost use Rattle.clap.specs.Words.{fault_of, found_of, kind_of, one_of, rows_of, subcommand_of, subcommand_rows_of};
 ghost use Rattle.clap.specs.declared.error.kind.ErrorKind.TheVariants as kind;
 ghost use Rattle.ff_words.specs.CommandLine.{flatflash};
-ghost use Rattle.ff_words.specs.Words.{AreRefused, AskFor, EnterNone, HasNoNumber, HasNumber, IsEntered, IsNoCommand};
+ghost use Rattle.ff_words.specs.Words.{AreRefused, AskFor, HasNoNumber, HasNumber, IsEntered, IsNoCommand};
 
 use crate::asked::{BadWords, Command};
 use crate::parser::parser;
@@ -16,7 +16,7 @@ use std::alloc::Global;
 pub fn command(alloc: Global, words: &[String]) -> Result<Command, BadWords>
     ensures ok { IfOk result (AskFor (map string_bytes words.now)) }
     ensures refused { IfErr result (λ cause. cause ≡ BadWords.Usage
-        → AreRefused (map string_bytes words.now) ⊎ EnterNone (map string_bytes words.now)) }
+        → AreRefused (map string_bytes words.now)) }
 {
     match matched(alloc, words) {
         Ok(matches) => asked(&matches).ok_or(BadWords::Usage),

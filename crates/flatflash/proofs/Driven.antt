@@ -8,7 +8,7 @@ use Rattle.std.proofs.lemmas.Bool.{eq-eqb, eqb-true}
 use Rattle.std.proofs.lemmas.List.Elements.{All-get_or}
 use Rattle.std.proofs.lemmas.List.{get_or-replicate, get_or_past, length-map, length-replicate, map-append}
 use Rattle.ff_base.specs.Geometry.{default_geometry}
-use Rattle.ff_core.specs.Core.{CoreView, entry_of, fresh_core}
+use Rattle.ff_core.specs.Core.{CoreView, due_entry, fresh_core}
 use Rattle.ff_core.specs.Record.{record_of}
 use Rattle.ff_model.specs.Callers.{entries_of}
 use Rattle.ff_model.specs.Legal.{IsLegal, faults_after, next_event}
@@ -16,7 +16,7 @@ use Rattle.ff_model.specs.declared.history.Entry.{Entry}
 use Rattle.ff_model.proofs.AppendedCalls.{AreNumbered-append, entries_of-append_other, entries_of-append_same}
 use Rattle.ff_trace.specs.declared.row.Row.{Row}
 use Rattle.ff_trace.specs.declared.row.Row.TheVariants.{Call, Turns, Power}
-use Rattle.flatflash.specs.Runs.{AreNextNumbers, AreRun, HasAnswered, IsFirstSession, after_row, caller_of, is_run}
+use Rattle.flatflash.specs.Runs.{AreNextNumbers, AreRun, HasAnswered, IsFirstSession, after_row, row_caller, is_run}
 
 -- one of the rows is run
 pub run_at : (rows : List Row) (i : ℕ) (row : Row) → AreRun rows → i < length rows → row ≡ get_or rows i row
@@ -66,21 +66,21 @@ few-more numbers at count within few k = elim (cases_Bool (k == at)) [
 ]
 
 -- a caller of a row that is run is one of 64
-pub run_caller : (row : Row) → is_run row ≡ true → caller_of row < 64
+pub run_caller : (row : Row) → is_run row ≡ true → row_caller row < 64
 run_caller (Call caller op) run = grind (arith, nat_tests)
 run_caller (Turns kind count) run = omega arith
 run_caller (Power arrive) run = omega arith
 
 -- the numbers behind a row
 pub numbers-more : (core : CoreView) (numbers : List ℕ) (row : Row) → AreNextNumbers core numbers → is_run row ≡ true
-    → AreNextNumbers (after_row core (get_or numbers (caller_of row) 0) row)
-    (set numbers (caller_of row) (get_or numbers (caller_of row) 0 + 1))
+    → AreNextNumbers (after_row core (get_or numbers (row_caller row) 0) row)
+    (set numbers (row_caller row) (get_or numbers (row_caller row) 0 + 1))
 numbers-more core numbers (Turns kind count) had run = absurd (cc)
 numbers-more core numbers (Power arrive) had run = absurd (cc)
 numbers-more core numbers (Call caller op) had run =
     let place : caller.0 < 64 = grind (arith, nat_tests) in
     let number = get_or numbers caller.0 0 in
-    let entry = entry_of core caller number op in
+    let entry = due_entry core caller number op in
     let size = had.size in
     record {
       size = length-set numbers caller.0 (number + 1) ∙ had.size;
@@ -103,13 +103,13 @@ numbers-more core numbers (Call caller op) had run =
 -- one row more was answered
 pub answered-more : (core : CoreView) (rows : List Row) (row : Row) (numbers : List ℕ) → HasAnswered core rows
     → length rows < 2 ^ 62 → AreNextNumbers core numbers → is_run row ≡ true
-    → HasAnswered (after_row core (get_or numbers (caller_of row) 0) row) (rows ++ row ∷ [])
+    → HasAnswered (after_row core (get_or numbers (row_caller row) 0) row) (rows ++ row ∷ [])
 answered-more core rows (Turns kind count) numbers had few next run = absurd (cc)
 answered-more core rows (Power arrive) numbers had few next run = absurd (cc)
 answered-more core rows (Call caller op) numbers had few next run =
     let place : caller.0 < 64 = grind (arith, nat_tests) in
     let number = get_or numbers caller.0 0 in
-    let entry = entry_of core caller number op in
+    let entry = due_entry core caller number op in
     let count = length-append rows (Call caller op ∷ []) in
     let events = had.events in
     record {

@@ -1,5 +1,5 @@
 -- How a call of the program ends, by the words, the input and the faults, and what it tells.
-use Rattle.std.specs.Prelude.{ℕ, ◌+◌, ◌≡◌, ◌≤◌, ◌⊎◌, ◌==◌, if◌then◌else◌, Bool, true, false, List, [], ◌∷◌, ◌++◌, codes, decimal, Option, None, Some, Result, Ok, Err}
+use Rattle.std.specs.Prelude.{ℕ, ◌+◌, ◌≡◌, ◌≤◌, ◌⊎◌, ◌==◌, if◌then◌else◌, false, List, [], ◌∷◌, ◌++◌, codes, decimal, Option, None, Some, Result, Ok, Err, ⊤}
 use Rattle.std.specs.Io.KnownBytes.{Appends}
 use Rattle.ff_base.specs.Count.{Rose}
 use Rattle.ff_io.specs.Known.{AppendsPrefix}
@@ -10,6 +10,7 @@ use Rattle.ff_trace.specs.declared.tally.Limits.{Limits}
 use Rattle.ff_trace.specs.declared.trace_rows.BadTrace.TheVariants as bad
 use Rattle.flatflash.specs.Input.{SourceChange, HasNoFault, Untouched, ReadsTooMuch, FailsToRead, ReadsWhole, HasTrace, trace_part}
 use Rattle.flatflash.specs.Runs.{AreSessionsOf, first_other}
+use Rattle.flatflash.specs.Words.{AreNoCommand, AskToSchedule}
 use Rattle.flatflash.specs.declared.refusal.Refusal.{Refusal}
 use Rattle.flatflash.specs.declared.refusal.Refusal.TheVariants as refusal
 use Rattle.flatflash.specs.declared.session.Session.{Session}
@@ -30,29 +31,42 @@ pub record IsFirstOther (trace : List ℕ) (number : ℕ) : Type 0 where
   pub first : first_other rows ≡ Some before
   pub place : number ≡ before + 1
 
--- why a run is refused. Each cause says that those before it don't hold; want of memory has none,
--- and no read failed before it.
-abbrev pub IsRefused : Bool → SourceChange → Refusal → Type 0
-IsRefused has_words source refusal.NoMemory = HasNoFault source
-IsRefused has_words source refusal.Usage = (has_words ≡ false) × Untouched source
-IsRefused has_words source refusal.ReadFault = (has_words ≡ true) × FailsToRead source
-IsRefused has_words source refusal.TooLong = (has_words ≡ true) × ReadsTooMuch source
-IsRefused has_words source refusal.NoSeparator =
-    (has_words ≡ true) × ReadsWhole source (λ bytes. trace_part bytes ≡ None)
-IsRefused has_words source (refusal.BadRow number) =
-    (has_words ≡ true)
-    × ReadsWhole source
+-- why words are refused. Want of memory has no cause.
+abbrev pub IsWordsCause : List (List ℕ) → Refusal → Type 0
+IsWordsCause words refusal.NoMemory = ⊤
+IsWordsCause words refusal.Usage = AreNoCommand words
+IsWordsCause words other = ⊥
+
+-- why an input that is to be run is refused. Each cause says that those before it don't hold; want
+-- of memory has none, and no read failed before it.
+abbrev pub IsRunCause : SourceChange → Refusal → Type 0
+IsRunCause source refusal.NoMemory = HasNoFault source
+IsRunCause source refusal.Usage = ⊥
+IsRunCause source refusal.ReadFault = FailsToRead source
+IsRunCause source refusal.TooLong = ReadsTooMuch source
+IsRunCause source refusal.NoSeparator = ReadsWhole source (λ bytes. trace_part bytes ≡ None)
+IsRunCause source (refusal.BadRow number) =
+    ReadsWhole source
     (HasTrace (λ trace. IsCauseOf one_thread trace (bad.Row number) ⊎ IsFirstOther trace number))
+
+-- why a call of the program is refused: by its words, and then nothing was read, or by its input
+abbrev pub IsRefused : List (List ℕ) → SourceChange → Refusal → Type 0
+IsRefused words source why =
+    (IsWordsCause words why × Untouched source) ⊎ (AskToSchedule words × IsRunCause source why)
 
 -- the whole input was read, and its trace is these rows
 abbrev pub ReadsRows : SourceChange → List Row → Type 0
 ReadsRows source rows = ReadsWhole source (HasTrace (λ trace. IsTrace one_thread trace rows))
 
+-- the whole input was read, and the sessions are those of its rows
+abbrev pub RunsInput : SourceChange → List Session → Type 0
+RunsInput source sessions = (rows : List Row) × ReadsRows source rows × AreSessionsOf rows sessions
+
 -- the words, the input and its faults allow this end
-abbrev pub IsEnd : Bool → SourceChange → End → Type 0
-IsEnd has_words source (Ok sessions) =
-    (has_words ≡ true) × (rows : List Row) × ReadsRows source rows × AreSessionsOf rows sessions
-IsEnd has_words source (Err why) = IsRefused has_words source why
+abbrev pub IsEnd : List (List ℕ) → SourceChange → End → Type 0
+IsEnd words source (Ok sessions) =
+    AskToSchedule words × RunsInput source sessions
+IsEnd words source (Err why) = IsRefused words source why
 
 -- a sink before and after a call: the bytes that it holds, where it tells them, and how often it
 -- has failed
@@ -81,7 +95,7 @@ sessions_text at (session ∷ later) =
 -- the line of a refusal
 abbrev pub refusal_text : Refusal → List ℕ
 refusal_text refusal.NoMemory = []
-refusal_text refusal.Usage = codes "usage: flatflash schedule\n"
+refusal_text refusal.Usage = codes "usage: flatflash schedule, threads or load N\n"
 refusal_text refusal.ReadFault = codes "read fault\n"
 refusal_text refusal.TooLong = codes "trace: too long\n"
 refusal_text refusal.NoSeparator = codes "trace: no separator\n"
@@ -133,9 +147,9 @@ pub record Tells (sink : SinkChange) (end : End) (status : ℕ)
   pub told : TellsAll sink end status ⊎ FailsToTell sink end status
 
 -- the call came to an end that the words, the input and its faults allow, and told it
-abbrev pub EndsAndTells : Bool → SourceChange → SinkChange → ℕ → List Session → Type 0
-EndsAndTells has_words source sink status sessions =
-    (end : End) × IsEnd has_words source end × Tells sink end status sessions
+abbrev pub EndsAndTells : List (List ℕ) → SourceChange → SinkChange → ℕ → List Session → Type 0
+EndsAndTells words source sink status sessions =
+    (end : End) × IsEnd words source end × Tells sink end status sessions
 
 -- the status after the sink was flushed: where that fails, 5 stands in the place of every other
 -- but 6

@@ -36,10 +36,10 @@ after_row core number (Turns kind count) = core
 after_row core number (Power arrive) = core
 
 -- the caller of a row, and 0 where it has none
-abbrev pub caller_of : Row → ℕ
-caller_of (Call caller op) = caller.0
-caller_of (Turns kind count) = 0
-caller_of (Power arrive) = 0
+abbrev pub row_caller : Row → ℕ
+row_caller (Call caller op) = caller.0
+row_caller (Turns kind count) = 0
+row_caller (Power arrive) = 0
 
 -- the numbers of the callers' next calls: how many each has made
 pub record AreNextNumbers (core : CoreView) (numbers : List ℕ) : Type 0 where

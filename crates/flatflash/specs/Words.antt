@@ -1,8 +1,16 @@
--- Which words the program takes.
-use Rattle.std.specs.Prelude.{Bool, false, List, [], ◌∷◌, ℕ, codes}
-use Rattle.std.specs.Str.{bytes_eq}
+-- What the words ask the program for.
+use Rattle.std.specs.Prelude.{ℕ, ◌⊎◌, List}
+use Rattle.ff_words.specs.Words.{AreRefused, AskFor}
+use Rattle.ff_words.specs.declared.asked.Command.TheVariants.{Schedule, Threads, Load}
 
--- the program's name and the command `schedule`
-abbrev pub is_schedule : List (List ℕ) → Bool
-is_schedule (program ∷ command ∷ []) = bytes_eq command (codes "schedule")
-is_schedule words = false
+-- the words ask for a run of the input, row by row
+abbrev pub AskToSchedule : List (List ℕ) → Type 0
+AskToSchedule words = AskFor words Schedule
+
+-- the words ask for what isn't built yet: a run on threads, or of rows that a number makes
+abbrev pub AskForMore : List (List ℕ) → Type 0
+AskForMore words = AskFor words Threads ⊎ ((number : ℕ) × AskFor words (Load number))
+
+-- the words are no command that the program runs
+abbrev pub AreNoCommand : List (List ℕ) → Type 0
+AreNoCommand words = AreRefused words ⊎ AskForMore words

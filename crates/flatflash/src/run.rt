@@ -4,36 +4,45 @@ ghost use Rattle.std.specs.String.{string_bytes};
 ghost use Rattle.ff_base.specs.Geometry.{default_geometry};
 ghost use Rattle.ff_core.specs.Core.{fresh_core};
 ghost use Rattle.ff_trace.specs.Tally.{most_rows};
-ghost use Rattle.flatflash.specs.Ending.{IsEnd, IsRefused, ReadsRows};
+ghost use Rattle.flatflash.specs.Ending.{IsEnd, IsRefused, IsRunCause, ReadsRows, RunsInput};
 ghost use Rattle.flatflash.specs.Input.{source_change};
-ghost use Rattle.flatflash.specs.Runs.{AreNextNumbers, AreRun, HasAnswered, IsFirstSession, after_row, caller_of, first_other, is_run};
-ghost use Rattle.flatflash.specs.Words.{is_schedule};
+ghost use Rattle.flatflash.specs.Runs.{AreNextNumbers, AreRun, HasAnswered, IsFirstSession, after_row, row_caller, first_other, is_run};
 
 use crate::input::{BadInput, read_all, trace_bytes};
 use crate::refusal::Refusal;
 use crate::session::Session;
-use crate::words::asks_to_schedule;
+use crate::words::expect_schedule;
 use ff_base::{Geometry, NoMemory};
 use ff_core::{Core, Room};
 use ff_io::Source;
 use ff_trace::{BadTrace, CALLERS, Row, trace};
 use std::alloc::Global;
 
-/// Runs the trace of an input: its sessions, of which there is one.
+/// Runs the trace of an input, where the words ask for it: its sessions, of which there is one.
 pub fn run<S: Source>(
     alloc: Global,
     words: &[String],
     source: &mut S,
 ) -> Result<Vec<Session>, Refusal>
-    ensures ok { IfOk result (λ sessions. IsEnd (is_schedule (map string_bytes words.now))
+    ensures ok { IfOk result (λ sessions. IsEnd (map string_bytes words.now)
         (source_change S.left S.faults source.old source.new) (Ok sessions.items)) }
     ensures few { IfOk result (λ sessions. vec_len sessions ≡ 1) }
-    ensures err { IfErr result (IsRefused (is_schedule (map string_bytes words.now))
+    ensures err { IfErr result (IsRefused (map string_bytes words.now)
         (source_change S.left S.faults source.old source.new)) }
 {
-    if !asks_to_schedule(words) {
-        return Err(Refusal::Usage);
+    match expect_schedule(alloc, words) {
+        Ok(()) => run_input(alloc, source),
+        Err(refusal) => Err(refusal),
     }
+}
+
+fn run_input<S: Source>(alloc: Global, source: &mut S) -> Result<Vec<Session>, Refusal>
+    ensures ok { IfOk result (λ sessions. RunsInput
+        (source_change S.left S.faults source.old source.new) sessions.items) }
+    ensures few { IfOk result (λ sessions. vec_len sessions ≡ 1) }
+    ensures err { IfErr result
+        (IsRunCause (source_change S.left S.faults source.old source.new)) }
+{
     let rows = read_rows(alloc, source)?;
     let session = run_rows(alloc, &rows)?;
     let mut sessions = Vec::new(alloc);
@@ -48,7 +57,7 @@ fn read_rows<S: Source>(alloc: Global, source: &mut S) -> Result<Vec<Row>, Refus
     ensures few { IfOk result (λ rows. vec_len rows ≤ most_rows) }
     ensures run { IfOk result (λ rows. AreRun rows.items) }
     ensures err { IfErr result
-        (IsRefused true (source_change S.left S.faults source.old source.new)) }
+        (IsRunCause (source_change S.left S.faults source.old source.new)) }
 {
     let input = match read_all(alloc, source) {
         Ok(input) => input,
@@ -144,11 +153,11 @@ fn drive_each(core: &mut Core, numbers: &mut [u32], rows: &[Row])
 fn drive_row(core: &mut Core, numbers: &mut [u32], row: &Row)
     requires run { is_run row.now ≡ true }
     requires size { length numbers.old ≡ 64 }
-    requires few { slice_index numbers.old (caller_of row.now) < most_rows }
+    requires few { slice_index numbers.old (row_caller row.now) < most_rows }
     requires room { 0 < core.old.spare_calls }
-    ensures core { core.new ≡ after_row core.old (slice_index numbers.old (caller_of row.now)) row.now }
+    ensures core { core.new ≡ after_row core.old (slice_index numbers.old (row_caller row.now)) row.now }
     ensures numbers { numbers.new
-        ≡ slice_set numbers.old (caller_of row.now) (slice_index numbers.old (caller_of row.now) + 1) }
+        ≡ slice_set numbers.old (row_caller row.now) (slice_index numbers.old (row_caller row.now) + 1) }
 {
     match row {
         Row::Call { caller, op } => {

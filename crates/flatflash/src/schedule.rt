@@ -3,7 +3,6 @@ ghost use Rattle.std.specs.Prelude.{map};
 ghost use Rattle.std.specs.String.{string_bytes};
 ghost use Rattle.flatflash.specs.Ending.{EndsAndTells, sink_change};
 ghost use Rattle.flatflash.specs.Input.{source_change};
-ghost use Rattle.flatflash.specs.Words.{is_schedule};
 
 use crate::outcome::Outcome;
 use crate::run::run;
@@ -23,7 +22,7 @@ pub fn schedule<S: Source, K: Sink>(
     source: &mut S,
     sink: &mut K,
 ) -> Outcome
-    ensures { EndsAndTells (is_schedule (map string_bytes words.now))
+    ensures { EndsAndTells (map string_bytes words.now)
         (source_change S.left S.faults source.old source.new)
         (sink_change K.written K.faults sink.old sink.new)
         result.status result.sessions.items }

@@ -74,7 +74,7 @@ fn line_of(refusal: Refusal) -> Line
 {
     let mut line = Line::new();
     match refusal {
-        Refusal::Usage => line.text(b"usage: flatflash schedule\n"),
+        Refusal::Usage => line.text(b"usage: flatflash schedule, threads or load N\n"),
         Refusal::ReadFault => line.text(b"read fault\n"),
         Refusal::TooLong => line.text(b"trace: too long\n"),
         Refusal::NoSeparator => line.text(b"trace: no separator\n"),

@@ -58,9 +58,15 @@ fn inputs_give_their_status_and_text(rt: HostRuntime) -> Result<(), Fail> {
             0,
             b"session 0\n0 0 store 1 abcd done\n0 1 load 0 4 00abcd00\nend\n",
         ),
+        (
+            b"---\ncaller,op,a,b\n0,store,0,aa\n1,load,0,1\n1,mark,0,9+1\n0,verify,,\n1,release,16,\n",
+            0,
+            b"session 0\n0 0 store 0 aa done\n1 0 load 0 1 aa\n1 1 mark 0 9+1 done\n0 1 verify done\n1 2 release 16 range\nend\n",
+        ),
+        (b"---\ncaller,op,a,b\n-,power,0,\n", 3, b"trace: row 1\n"),
         (b"---\ncaller,op,a,b\n0,fly,,\n", 3, b"trace: row 1\n"),
         (
-            b"---\ncaller,op,a,b\n0,load,1,1\n1,load,1,1\n",
+            b"---\ncaller,op,a,b\n0,load,1,1\n-,drain,1,\n",
             3,
             b"trace: row 2\n",
         ),
@@ -86,6 +92,9 @@ fn other_words_are_refused(rt: HostRuntime) -> Result<(), Fail> {
         "",
         "flatflash",
         "flatflash threads",
+        "flatflash load 7",
+        "flatflash load 4294967296",
+        "flatflash --help",
         "flatflash schedule more",
         "schedule flatflash",
     ] {
@@ -94,7 +103,10 @@ fn other_words_are_refused(rt: HostRuntime) -> Result<(), Fail> {
         let mut sink = sink(alloc, 0)?;
         let outcome = schedule(alloc, &words, &mut source, &mut sink);
         assert_eq!(rt; outcome.status, 1);
-        assert_eq!(rt; sink.written(), b"usage: flatflash schedule\n".as_slice());
+        assert_eq!(rt;
+            sink.written(),
+            b"usage: flatflash schedule, threads or load N\n".as_slice()
+        );
         assert!(rt; outcome.sessions.is_empty());
     }
     Ok(())

@@ -1,7 +1,7 @@
 use Rattle.std.proofs.Common.{◌≡◌, ◌+◌, ◌++◌, ◌∷◌, [], ◌∙◌, take, length, get_or, ap, sym, arith}
 use Rattle.std.proofs.lemmas.List.{length-take, take_all, take_more}
 use Rattle.ff_trace.specs.declared.row.Row.{Row}
-use Rattle.flatflash.specs.Runs.{caller_of}
+use Rattle.flatflash.specs.Runs.{row_caller}
 use Rattle.flatflash.proofs.Driven.{answered-more, answered-none, few-more, few-none, next-none, numbers-more, run_at, run_caller, spare-after_row}
 use Rattle.flatflash.proofs.run.drive_each.Goals as goal
 
@@ -18,7 +18,7 @@ drive_row-requires c =
     let loop = c.loop-row.invariant in
     let row = c.row-item.result in
     let run = run_at c.args.rows.now c.loop-row.row-index row c.requires.run c.loop-row-test.true c.row-item.is in
-    let few = loop.few (caller_of row) in
+    let few = loop.few (row_caller row) in
     let spare = loop.spare in
     record { run = run; size = loop.next.size; few = omega arith; room = omega arith }
 
@@ -30,7 +30,7 @@ loop-row-preserved c =
     let row = c.row-item.result in
     let core = c.loop-row.core in
     let numbers = c.loop-row.numbers in
-    let number = get_or numbers (caller_of row) 0 in
+    let number = get_or numbers (row_caller row) 0 in
     let run = run_at rows i row c.requires.run c.loop-row-test.true c.row-item.is in
     let place = run_caller row run in
     let size = loop.next.size in
@@ -42,7 +42,7 @@ loop-row-preserved c =
     rw (c.drive_row.ensures.core, c.drive_row.ensures.numbers, ← more) record {
       answered = answered-more core (take i rows) row numbers loop.answered (omega arith) loop.next run;
       next = numbers-more core numbers row loop.next run;
-      few = few-more numbers (caller_of row) i (omega arith) loop.few;
+      few = few-more numbers (row_caller row) i (omega arith) loop.few;
       spare = omega arith;
     }
 
