@@ -1,10 +1,10 @@
 -- One more frame of a pass, and the end of a pass over all frames.
-use Rattle.std.specs.Prelude.{nat_le, nat_lt, if◌then◌else◌}
-use Rattle.std.proofs.Common.{◌≡◌, ℕ, ◌+◌, ◌-◌, ◌<◌, ◌≤◌, Bool, true, false, List, length, Option, None, Some, ◌⊎◌, inl, inr, refl, sym, ap, ◌∙◌, arith}
+use Rattle.std.specs.Prelude.{nat_le, nat_lt}
+use Rattle.std.proofs.Common.{◌≡◌, ℕ, ◌+◌, ◌-◌, ◌<◌, ◌≤◌, Bool, true, false, List, length, Option, None, Some, ◌⊎◌, inl, inr, sym, ap, ◌∙◌, arith}
 use Rattle.std.proofs.lemmas.Bool.{both_ways, cases_Bool, cases_lt, leb-false, leb-true, le-ltb, lt-ltb}
 use Rattle.ff_frames.specs.declared.frame.Frame.{Frame}
 use Rattle.ff_plb.specs.declared.slot.Slot.{Slot}
-use Rattle.ff_evict.specs.Evictor.{IsBestWithin, IsChosen, IsNoneToLeave, IsNoneWithin, frame_after, may_leave, score_of}
+use Rattle.ff_evict.specs.Evictor.{IsNoneToLeave, IsNoneWithin, frame_after, may_leave, score_of}
 use Rattle.ff_evict.specs.Scan.{IsFoundWithin, better_of}
 use Rattle.ff_evict.specs.declared.evictor.Best.{Best}
 

@@ -1,4 +1,4 @@
-use Rattle.std.proofs.Common.{◌≡◌, ◌≢◌, ◌<◌, ℕ, length, ◌∙◌, arith}
+use Rattle.std.proofs.Common.{◌<◌, ℕ, length, arith}
 use Rattle.ff_evict.proofs.Passes.{none_to_leave}
 use Rattle.ff_evict.proofs.evictor.Evictor.choose.Goals as goal
 

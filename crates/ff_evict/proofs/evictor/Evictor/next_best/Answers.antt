@@ -1,5 +1,4 @@
-use Rattle.std.proofs.Common.{◌≡◌, true, false, sym, ap, ◌∙◌, ℕ}
-use Rattle.ff_evict.specs.Evictor.{may_leave, score_of}
+use Rattle.std.proofs.Common.{sym, ◌∙◌}
 use Rattle.ff_evict.proofs.Passes.{found-better, found-skip}
 use Rattle.ff_evict.proofs.evictor.Evictor.next_best.Goals as goal
 
