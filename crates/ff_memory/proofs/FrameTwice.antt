@@ -1,6 +1,6 @@
 -- A frame that was changed twice, and a store in its parts.
 use Rattle.std.specs.Prelude.{option_map}
-use Rattle.std.proofs.Common.{◌≡◌, ℕ, ◌<◌, List, length, get_or, set, Option, Some, refl, sym, ap, ◌∙◌, subst}
+use Rattle.std.proofs.Common.{◌≡◌, ℕ, ◌<◌, List, length, set, Option, Some, ap, ◌∙◌}
 use Rattle.std.proofs.lemmas.List.{get_or-set_same, set-set}
 use Rattle.ff_frames.specs.Frame.{free_frame}
 use Rattle.ff_frames.specs.Frames.{frame_at, with_frame}
@@ -44,7 +44,7 @@ stored-in_flight m m1 m2 d d1 slots k s p line from piece access ready page some
     let slots2 : m2.slots ≡ set m.slots k (Some (after_store line s)) =
     ap (λ (n : MemoryView). n.slots) stored ∙ (rw (slots1, ready.has.there) at hit) in
     let pages : (q : ℕ) → q ≡ p → set m.frames s.frame (change (carried_frame (carries (Some s) line (length piece)) line (line_at d q line) (frame_at m.frames s.frame)))
-        ≡ set m.frames s.frame (change (carried_frame (carries (Some s) line (length piece)) line (line_at d p line) (frame_at m.frames s.frame))) =
+    ≡ set m.frames s.frame (change (carried_frame (carries (Some s) line (length piece)) line (line_at d p line) (frame_at m.frames s.frame))) =
     λ q same. ap (λ (i : ℕ). set m.frames s.frame (change (carried_frame (carries (Some s) line (length piece)) line (line_at d i line) (frame_at m.frames s.frame)))) same in
     record {
       access_is = answer;

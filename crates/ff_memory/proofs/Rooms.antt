@@ -1,7 +1,7 @@
 -- The device has room for a post to a page that is born.
-use Rattle.std.proofs.Common.{◌≡◌, ◌≢◌, ◌≤◌, ◌<◌, ℕ, zero, suc, ◌+◌, ◌==◌, ◌||◌, ◌&&◌, not, Bool, true, false, cond, List, [], ◌∷◌, ◌++◌, length, get_or, set, take, count_by, inl, inr, refl, sym, ap, ◌∙◌, arith, length-set}
+use Rattle.std.proofs.Common.{◌≡◌, ◌≢◌, ◌≤◌, ◌<◌, ℕ, zero, suc, ◌+◌, ◌==◌, not, Bool, true, false, cond, List, length, get_or, set, take, count_by, inl, inr, refl, sym, ap, ◌∙◌, arith, length-set}
 use Rattle.std.specs.Prelude.{if◌then◌else◌}
-use Rattle.std.proofs.lemmas.Bool.{and_cases, cases_Bool, cases_eq, eqb-true, ne_eqb, eqb-false, eq-eqb, or_cases, not-false, both_ways}
+use Rattle.std.proofs.lemmas.Bool.{and_cases, cases_Bool, cases_eq, eqb-true, eqb-false, or_cases, not-false}
 use Rattle.std.proofs.lemmas.List.{get_or-set_other, get_or-set_same, take_more, take_all}
 use Rattle.std.proofs.lemmas.List.Sums.{sum_by-set, sum_by_push}
 use Rattle.ff_lines.specs.DeviceState.{DeviceState, HasRoom}

@@ -1,7 +1,7 @@
 -- A store that a frame serves keeps the facts, and changes its line alone.
-use Rattle.std.specs.Prelude.{IfSome, is_some}
-use Rattle.std.proofs.Common.{◌≡◌, ◌≢◌, ℕ, ◌+◌, ◌<◌, ◌≤◌, ◌==◌, Bool, true, false, List, length, get_or, set, Option, None, Some, inl, inr, refl, sym, ap, ◌∙◌, subst, arith}
-use Rattle.std.proofs.lemmas.Bool.{cases_Bool, cases_eq, eqb-true, eqb-false}
+use Rattle.std.specs.Prelude.{is_some}
+use Rattle.std.proofs.Common.{◌≡◌, ◌≢◌, ℕ, ◌+◌, ◌<◌, ◌≤◌, ◌==◌, Bool, true, false, List, length, set, Option, None, Some, inl, inr, refl, sym, ap, ◌∙◌, subst}
+use Rattle.std.proofs.lemmas.Bool.{cases_Bool, cases_eq, eqb-false}
 use Rattle.std.proofs.lemmas.List.{get_or-set_same, get_or-set_other}
 use Rattle.std.proofs.lemmas.Option.{none-some, same_Some}
 use Rattle.ff_base.specs.Page.{line_of}
@@ -9,15 +9,15 @@ use Rattle.ff_base.proofs.PageLines.{length-line_of}
 use Rattle.ff_frames.specs.Frame.{free_frame}
 use Rattle.ff_frames.specs.Frames.{frame_at}
 use Rattle.ff_frames.specs.declared.frame.Frame.{Frame}
-use Rattle.ff_lines.specs.DeviceState.{DeviceState, IsDevice, line_at}
+use Rattle.ff_lines.specs.DeviceState.{DeviceState, line_at}
 use Rattle.ff_lines.specs.LineMask.{has_line}
 use Rattle.ff_lines.specs.declared.line_mask.LineMask.{LineMask}
 use Rattle.ff_lines.specs.Overlay.{overlaid}
 use Rattle.ff_lines.proofs.DeviceLines.{length-line_at}
 use Rattle.ff_memory.specs.Located.{IsAtRest, IsFlyingBy, IsInFlight, IsLeavingFlight, IsComingFlight, IsLocated, IsSited}
-use Rattle.ff_memory.specs.Memory.{IsMemorySound, MemoryView, entry_at, home_at}
-use Rattle.ff_memory.specs.Places.{Holds, frame_in_flight, frame_of_page, line_from, place, store_in_flight, storing_frame}
-use Rattle.ff_memory.specs.Stores.{IsFrameStore, IsStoreGiven, IsStored, carried_frame, carries, carries_by, is_refused, stored_frame}
+use Rattle.ff_memory.specs.Memory.{MemoryView, entry_at, home_at}
+use Rattle.ff_memory.specs.Places.{Holds, frame_in_flight, frame_of_page, line_from, place, store_in_flight}
+use Rattle.ff_memory.specs.Stores.{IsFrameStore, IsStoreGiven, IsStored, carried_frame, carries, carries_by, stored_frame}
 use Rattle.ff_memory.specs.declared.access.Access.{Access}
 use Rattle.ff_plb.specs.Plb.{entry_of}
 use Rattle.ff_plb.specs.Slot.{after_store, bits_after_store, flight_after_store, without_line}
@@ -26,16 +26,16 @@ use Rattle.ff_plb.specs.declared.slot.Slot.{Slot}
 use Rattle.ff_plb.specs.declared.slot.Way.{Way}
 use Rattle.ff_plb.specs.declared.slot.Way.TheVariants.{Coming, Leaving}
 use Rattle.ff_plb.proofs.Entries.{entry-there}
-use Rattle.ff_table.specs.Table.{TableView, home_of, is_born, marks_of}
+use Rattle.ff_table.specs.Table.{TableView, home_of, marks_of}
 use Rattle.ff_table.specs.declared.table.Home.{Home}
-use Rattle.ff_table.specs.declared.table.Home.TheVariants.{Ssd, Host}
+use Rattle.ff_table.specs.declared.table.Home.TheVariants.{Host}
 use Rattle.ff_memory.proofs.FlightMoves.{coming-line, entries-set, entry-set, leaving-line}
 use Rattle.ff_memory.proofs.Flights.{held-within}
 use Rattle.ff_memory.proofs.FrameStores.{IsWritten, base_of, carried-place, drains-like, is-written, written-clean, written-dirty, written-dirty_cases}
 use Rattle.ff_memory.proofs.Lifts.{mask-cases, mask-here, mask-more, mask-other}
 use Rattle.ff_memory.proofs.Moves.{IsMove, move-located, place-other}
 use Rattle.ff_memory.proofs.Rooms.{born-more, born-now, few-born}
-use Rattle.ff_memory.proofs.Sites.{SameAt, one-page, sited-holds, serving-frame}
+use Rattle.ff_memory.proofs.Sites.{SameAt, one-page}
 
 -- the frame after the store
 pub record IsFrameAfter (f p line from : ℕ) (piece : List ℕ) (m : MemoryView) (d : DeviceState) (m' : MemoryView) : Type 0 where
