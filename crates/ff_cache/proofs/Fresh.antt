@@ -1,12 +1,12 @@
 -- A cache of empty slots.
-use Rattle.std.proofs.Common.{◌≡◌, ◌<◌, ◌≤◌, inl, inr, ℕ, ◌*◌, ◌⊎◌, true, false, List, [], length, refl, ap, ◌∙◌, arith}
+use Rattle.std.proofs.Common.{◌≡◌, inl, inr, ℕ, ◌*◌, true, false, [], refl}
 use Rattle.std.proofs.Math.ListN.{replicate}
 use Rattle.std.proofs.lemmas.Bool.{cases_lt}
 use Rattle.std.proofs.lemmas.List.{get_or-replicate, get_or_past, length-replicate}
 use Rattle.ff_base.specs.Geometry.{IsWithinLimits}
 use Rattle.ff_base.specs.declared.geometry.Geometry.{Geometry}
 use Rattle.ff_cache.specs.Cache.{fresh_cache, AreSizes, IsCacheSound}
-use Rattle.ff_cache.specs.Slots.{empty_slot, holds, slot_at}
+use Rattle.ff_cache.specs.Slots.{empty_slot, slot_at}
 use Rattle.ff_rrip.specs.Ways.{distant_value}
 
 -- a geometry's sets and ways

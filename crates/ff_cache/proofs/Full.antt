@@ -1,11 +1,10 @@
 -- Whether a set has an empty way.
-use Rattle.std.proofs.Common.{◌≡◌, ◌≢◌, ◌<◌, ◌≤◌, inl, inr, ℕ, zero, suc, ◌+◌, ◌-◌, ◌*◌, ◌⊎◌, ◌&&◌, Bool, true, false, not, List, length, refl, sym, ap, ◌∙◌, arith, Option, Some, None}
+use Rattle.std.proofs.Common.{◌≡◌, ◌<◌, ◌≤◌, inl, inr, ℕ, zero, suc, ◌+◌, ◌-◌, Bool, true, false, not, length, refl, sym, ap, ◌∙◌, arith, Option, Some, None}
 use Rattle.std.specs.Option.{is_none}
 use Rattle.std.specs.Prelude.{IfSome, MatchOption}
 use Rattle.std.proofs.lemmas.Bool.{and_from, and_left, and_right, and_parts, cases_lt}
-use Rattle.ff_cache.specs.Cache.{CacheView, all_below, first_of, is_full_set, way_at, IsCacheSound, IsEmptyWay, IsInSet}
-use Rattle.ff_cache.specs.Slots.{is_empty, slot_at, IsFirstThat, IsWayOf, NonePasses}
-use Rattle.ff_cache.specs.declared.slot.Slot.{Slot}
+use Rattle.ff_cache.specs.Cache.{CacheView, all_below, first_of, is_full_set, way_at, IsEmptyWay}
+use Rattle.ff_cache.specs.Slots.{is_empty, slot_at, IsFirstThat, NonePasses}
 
 pub all_below_true : (test : ℕ → Bool) (n : ℕ) → ((k : ℕ) → k < n → test k ≡ true) → all_below test n ≡ true
 all_below_true test zero each = refl
@@ -36,7 +35,7 @@ pub full_set : (cache : CacheView) (page : ℕ)
     → is_full_set cache page ≡ true
 full_set cache page none =
     all_below_true (λ way. not (is_empty (way_at cache page way))) cache.ways
-        (λ way below. ap not (none (first_of cache page + way) (omega arith) (omega arith)))
+    (λ way below. ap not (none (first_of cache page + way) (omega arith) (omega arith)))
 
 -- a way of the set is empty
 pub not_full_set : (cache : CacheView) (page slot : ℕ) → first_of cache page ≤ slot → slot < first_of cache page + cache.ways
@@ -45,13 +44,13 @@ not_full_set cache page slot from to empty =
     let first : ℕ = first_of cache page in
     let place : first + (slot - first) ≡ slot = omega arith in
     all_below_false (λ way. not (is_empty (way_at cache page way))) cache.ways (slot - first) (omega arith)
-        (ap (λ k. not (is_empty (slot_at cache.slots k))) place ∙ ap not empty)
+    (ap (λ k. not (is_empty (slot_at cache.slots k))) place ∙ ap not empty)
 
 -- what the search for an empty way tells
 pub full_told : (cache : CacheView) (page : ℕ) (result : Option ℕ)
     → MatchOption result
-        (NonePasses is_empty cache.slots (first_of cache page) (first_of cache page + cache.ways))
-        (IsFirstThat is_empty cache.slots (first_of cache page) (first_of cache page + cache.ways))
+    (NonePasses is_empty cache.slots (first_of cache page) (first_of cache page + cache.ways))
+    (IsFirstThat is_empty cache.slots (first_of cache page) (first_of cache page + cache.ways))
     → is_none result ≡ is_full_set cache page
 full_told cache page None told = sym (full_set cache page told)
 full_told cache page (Some k) told = sym (not_full_set cache page k told.after told.before told.passes)
@@ -59,8 +58,8 @@ full_told cache page (Some k) told = sym (not_full_set cache page k told.after t
 pub least_told : (cache : CacheView) (page : ℕ) (result : Option ℕ)
     → first_of cache page + cache.ways ≤ length cache.slots
     → MatchOption result
-        (NonePasses is_empty cache.slots (first_of cache page) (first_of cache page + cache.ways))
-        (IsFirstThat is_empty cache.slots (first_of cache page) (first_of cache page + cache.ways))
+    (NonePasses is_empty cache.slots (first_of cache page) (first_of cache page + cache.ways))
+    (IsFirstThat is_empty cache.slots (first_of cache page) (first_of cache page + cache.ways))
     → IfSome result (IsEmptyWay cache page)
 least_told cache page None fits told = tt
 least_told cache page (Some k) fits told =

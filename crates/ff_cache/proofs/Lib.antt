@@ -1,5 +1,5 @@
 mod Fresh
-mod Full
+pub mod Full
 pub mod Held
 mod Mounted
 mod Put

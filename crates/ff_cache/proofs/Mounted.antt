@@ -1,11 +1,11 @@
 -- The cache of what the battery kept.
-use Rattle.std.proofs.Common.{◌≡◌, ◌<◌, ◌≤◌, inl, inr, ℕ, zero, suc, ◌+◌, ◌-◌, ◌*◌, ◌⊎◌, List, [], ◌∷◌, ◌++◌, length, get_or, refl, sym, ap, ◌∙◌, arith, length-append}
+use Rattle.std.proofs.Common.{◌≡◌, ◌<◌, inl, inr, ℕ, suc, ◌+◌, ◌-◌, ◌*◌, List, [], ◌∷◌, ◌++◌, length, get_or, refl, ap, ◌∙◌, arith, length-append}
 use Rattle.std.proofs.lemmas.Bool.{cases_lt}
 use Rattle.std.proofs.lemmas.List.{get_or_append_left, get_or-append_right}
 use Rattle.ff_base.specs.Geometry.{IsWithinLimits}
 use Rattle.ff_base.specs.declared.geometry.Geometry.{Geometry}
 use Rattle.std.specs.Prelude.{slice_index}
-use Rattle.ff_cache.specs.Cache.{CacheView, values_at, AreSizes, AreValues, IsCacheSound}
+use Rattle.ff_cache.specs.Cache.{values_at, IsCacheSound}
 use Rattle.ff_cache.specs.Nv.{NvWay, mounted_value, slot_of, slots_of, way_of, ways_of, AreMounted}
 use Rattle.ff_cache.specs.Slots.{slot_at, ArePlaced}
 use Rattle.ff_cache.specs.declared.slot.Slot.{Slot}

@@ -1,8 +1,8 @@
 -- A cache of which a slot was filled with a page that was held nowhere.
-use Rattle.std.proofs.Common.{◌≡◌, ◌≢◌, ◌<◌, ◌≤◌, inl, inr, ℕ, ◌+◌, ◌*◌, ◌/◌, ◌%◌, ◌⊎◌, Bool, true, false, List, [], length, set, refl, sym, ap, ◌∙◌, arith, Option, Some, None, length-set, get_or-set_same, get_or-set_other}
+use Rattle.std.proofs.Common.{◌≡◌, ◌≢◌, ◌<◌, inl, inr, ℕ, ◌/◌, ◌%◌, true, false, List, [], length, set, refl, sym, ◌∙◌, arith, None, length-set, get_or-set_same, get_or-set_other}
 use Rattle.std.proofs.lemmas.Bool.{cases_eq, eqb-true}
 use Rattle.ff_cache.specs.Cache.{CacheView, values_at, with_value, AreValues, IsCacheSound, IsInSet}
-use Rattle.ff_cache.specs.Slots.{empty_slot, held, holds, is_empty, slot_at, slot_filled, ArePlaced, IsWayOf}
+use Rattle.ff_cache.specs.Slots.{empty_slot, held, holds, slot_at, slot_filled, ArePlaced, IsWayOf}
 use Rattle.ff_cache.specs.declared.slot.Slot.{Slot}
 use Rattle.ff_cache.proofs.Held.{none_holds}
 

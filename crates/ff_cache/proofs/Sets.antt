@@ -1,11 +1,10 @@
 -- The slots of a page's set.
-use Rattle.std.proofs.Common.{◌≡◌, ◌≢◌, ◌<◌, ◌≤◌, inl, inr, ℕ, ◌+◌, ◌*◌, ◌%◌, ◌⊎◌, Bool, true, false, List, length, refl, sym, ap, ◌∙◌, arith, Option, Some, None}
+use Rattle.std.proofs.Common.{◌≡◌, ◌<◌, ◌≤◌, ℕ, ◌+◌, ◌*◌, true, length, arith, Option, Some, None}
 use Rattle.std.specs.Prelude.{MatchOption}
 use Rattle.std.proofs.Math.Nat.{mul-le-mul_left}
-use Rattle.std.proofs.lemmas.Bool.{cases_lt, false_from_ne_true}
-use Rattle.ff_cache.specs.Cache.{CacheView, first_of, IsCacheSound, IsInSet, IsSlotOf}
-use Rattle.ff_cache.specs.Slots.{held, holds, slot_at, ArePlaced, IsFirstThat, IsWayOf, NonePasses}
-use Rattle.ff_cache.specs.declared.slot.Slot.{Slot}
+use Rattle.std.proofs.lemmas.Bool.{false_from_ne_true}
+use Rattle.ff_cache.specs.Cache.{CacheView, first_of, IsCacheSound, IsSlotOf}
+use Rattle.ff_cache.specs.Slots.{held, holds, slot_at, IsFirstThat, NonePasses}
 use Rattle.ff_cache.proofs.Held.{held_first, held_none}
 
 -- the ways of a set are among the slots
@@ -30,14 +29,14 @@ pub held_nowhere : (cache : CacheView) (page : ℕ) → IsCacheSound cache
     → held cache.slots page ≡ None
 held_nowhere cache page sound none =
     held_none cache.slots page (λ j within. false_from_ne_true (holds (slot_at cache.slots j) page)
-        (λ is. let place = sound.slots.placed j page within is in let not_here = none j place.from place.to in absurd (cc)))
+    (λ is. let place = sound.slots.placed j page within is in let not_here = none j place.from place.to in absurd (cc)))
 
 -- what the search of a page's set tells
 pub find_told : (cache : CacheView) (page : ℕ) (result : Option ℕ) → IsCacheSound cache
     → first_of cache page + cache.ways ≤ length cache.slots
     → MatchOption result
-        (NonePasses (λ slot. holds slot page) cache.slots (first_of cache page) (first_of cache page + cache.ways))
-        (IsFirstThat (λ slot. holds slot page) cache.slots (first_of cache page) (first_of cache page + cache.ways))
+    (NonePasses (λ slot. holds slot page) cache.slots (first_of cache page) (first_of cache page + cache.ways))
+    (IsFirstThat (λ slot. holds slot page) cache.slots (first_of cache page) (first_of cache page + cache.ways))
     → MatchOption result (held cache.slots page ≡ None) (IsSlotOf cache page)
 find_told cache page None sound fits told = held_nowhere cache page sound told
 find_told cache page (Some k) sound fits told =

@@ -1,6 +1,5 @@
 -- What a contract sees of a cache, and what it keeps.
-use Rattle.std.specs.Prelude.{ℕ, zero, suc, ◌+◌, ◌*◌, ◌<◌, ◌≤◌, ◌≡◌, ◌%◌, ◌/◌, ◌&&◌, Bool, true, false, not, List, [], length, Option, Some, replicate, slice_index_or, slice_set}
-use Rattle.ff_base.specs.declared.geometry.Geometry.{Geometry}
+use Rattle.std.specs.Prelude.{ℕ, zero, suc, ◌+◌, ◌*◌, ◌<◌, ◌≤◌, ◌≡◌, ◌%◌, ◌/◌, ◌&&◌, Bool, true, false, not, List, [], length, Some, replicate, slice_index_or, slice_set}
 use Rattle.ff_cache.specs.Slots.{empty_slot, held, holds, is_empty, slot_at, ArePlaced, IsWayOf}
 use Rattle.ff_cache.specs.declared.slot.Slot.{Slot}
 use Rattle.ff_rrip.specs.Ways.{distant_value, IsVictimWay}
@@ -59,7 +58,8 @@ pub record IsSlotOf (cache : CacheView) (page slot : ℕ) : Type 0 where
 pub record IsEmptyWay (cache : CacheView) (page slot : ℕ) : Type 0 where
   pub in_set : IsInSet cache page slot
   pub empty : is_empty (slot_at cache.slots slot) ≡ true
-  pub least : (other : ℕ) → first_of cache page ≤ other → other < slot → is_empty (slot_at cache.slots other) ≡ false
+  pub least : (other : ℕ) → first_of cache page ≤ other → other < slot
+      → is_empty (slot_at cache.slots other) ≡ false
 
 -- the slot's way has this value
 abbrev pub with_value : CacheView → ℕ → ℕ → List (List ℕ)

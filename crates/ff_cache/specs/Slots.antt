@@ -1,5 +1,5 @@
 -- Slots of a cache, and what each update makes of one.
-use Rattle.std.specs.Prelude.{ℕ, ◌+◌, ◌*◌, ◌<◌, ◌≤◌, ◌≡◌, ◌%◌, ◌==◌, Bool, true, false, List, [], length, find, Option, Some, None, slice_index_or}
+use Rattle.std.specs.Prelude.{ℕ, ◌+◌, ◌*◌, ◌<◌, ◌≤◌, ◌≡◌, ◌%◌, ◌==◌, Bool, true, false, List, length, find, Option, Some, None, slice_index_or}
 use Rattle.std.specs.Option.{is_none}
 use Rattle.ff_base.specs.Page.{blank_page}
 use Rattle.ff_base.specs.declared.numbers.PageNo.{PageNo}
@@ -8,7 +8,14 @@ use Rattle.ff_cache.specs.declared.slot.Slot.{Slot}
 
 -- a slot that holds no page; its bytes say nothing
 abbrev pub empty_slot : Slot
-empty_slot = record { page = None; dirty = false; touched = false; pinned = false; bytes = blank_page }
+empty_slot = record {
+  page =
+      None;
+  dirty = false;
+  touched = false;
+  pinned = false;
+  bytes = blank_page;
+}
 
 -- the slot of a number; past the last it is empty
 abbrev pub slot_at : List Slot → ℕ → Slot
@@ -39,7 +46,14 @@ slot_written slot line from piece =
 -- a slot that was filled with a page from below
 abbrev pub slot_filled : ℕ → List ℕ → Slot
 slot_filled page bytes =
-    record { page = Some (record { 0 = page }); dirty = false; touched = false; pinned = false; bytes = bytes }
+    record {
+      page = Some
+          (record { 0 = page });
+      dirty = false;
+      touched = false;
+      pinned = false;
+      bytes = bytes;
+    }
 
 -- a slot whose bytes were programmed
 abbrev pub slot_flushing : Slot → Slot
@@ -71,7 +85,8 @@ pub record IsWayOf (sets ways page k : ℕ) : Type 0 where
 -- each page has one slot at most, in its set, and an empty slot is clean and not pinned
 pub record ArePlaced (sets ways : ℕ) (slots : List Slot) : Type 0 where
   pub size : length slots ≡ sets * ways
-  pub placed : (k page : ℕ) → k < length slots → holds (slot_at slots k) page ≡ true → IsWayOf sets ways page k
+  pub placed : (k page : ℕ) → k < length slots → holds (slot_at slots k) page ≡ true
+      → IsWayOf sets ways page k
   pub unique : (k j page : ℕ) → k < length slots → j < length slots
       → holds (slot_at slots k) page ≡ true → holds (slot_at slots j) page ≡ true → k ≡ j
   pub clean : (k : ℕ) → is_empty (slot_at slots k) ≡ true → (slot_at slots k).dirty ≡ false

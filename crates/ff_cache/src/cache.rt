@@ -94,7 +94,8 @@ impl Cache {
     /// The slot that holds the page.
     #[tactic(auto, using(crate::proofs::Sets::find_told))]
     pub fn find(&self, page: PageNo) -> Option<u32>
-        ensures { MatchOption result (held self.now.slots page.0 ≡ None) (IsSlotOf self.now page.0) }
+        ensures { MatchOption result (held self.now.slots page.0
+            ≡ None) (IsSlotOf self.now page.0) }
     {
         let first = self.first_slot(page);
         first_held(&self.slots, first, first + self.ways, page)

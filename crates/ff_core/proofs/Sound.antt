@@ -17,7 +17,7 @@ use Rattle.ff_model.specs.declared.op.Op.{Op}
 use Rattle.ff_model.proofs.Appended.{flat-append, next_event-append, faults_after-append, legal-append}
 use Rattle.ff_model.proofs.Replies.{reply_over-same, is_refused-none}
 use Rattle.ff_core.specs.Pages.{page_byte, blank_pages, LeavesBytes}
-use Rattle.ff_core.specs.Core.{CoreView, IsCoreSound, entry_of, after_call, fresh_core}
+use Rattle.ff_core.specs.Core.{CoreView, IsCoreSound, due_entry, after_call, fresh_core}
 
 -- a call that isn't refused for want of a place is answered as if none could be
 open_reply : (opening : Opening) (before : List Entry) (byte : ℕ → ℕ) (event : ℕ) (op : Op) → opening.pages ≤ opening.capacity
@@ -41,7 +41,7 @@ due_is core pages history_room op sound =
 
 -- the entry of a call may stand behind those before it
 follows : (core : CoreView) (pages : List (List ℕ)) (history_room : ℕ) (caller : Caller) (number : ℕ) (op : Op) → IsCoreSound core pages history_room
-    → MayFollow core.opening core.entries (entry_of core caller number op)
+    → MayFollow core.opening core.entries (due_entry core caller number op)
 follows core pages history_room caller number op sound =
     let events = sound.events in
     let faults = sound.faults in
@@ -53,7 +53,7 @@ pub sound_after : (core : CoreView) (old new : List (List ℕ)) (history_room : 
     → LeavesBytes old op (due_reply core.opening core.entries core.events op) new → length new ≡ length old
     → IsCoreSound (after_call core caller number op) new history_room
 sound_after core old new history_room caller number op sound spare leaves size =
-    let entry = entry_of core caller number op in
+    let entry = due_entry core caller number op in
     let room = sound.room in
     let one_more = length-append core.entries (entry ∷ []) in
     let flat = flat-append core.opening.base core.entries entry (length old) (page_byte old) (page_byte new) sound.flat leaves in

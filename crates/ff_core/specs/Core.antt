@@ -38,8 +38,8 @@ fresh_core geometry calls turns =
     }
 
 -- the entry of a call that is answered now: its reply is the one that a legal history asks for
-abbrev pub entry_of : CoreView → Caller → ℕ → Op → Entry
-entry_of core caller number op =
+abbrev pub due_entry : CoreView → Caller → ℕ → Op → Entry
+due_entry core caller number op =
     record {
       event = core.events;
       caller = caller;
@@ -53,7 +53,7 @@ entry_of core caller number op =
 abbrev pub after_call : CoreView → Caller → ℕ → Op → CoreView
 after_call core caller number op =
     record core {
-      entries = core.entries ++ entry_of core caller number op ∷ [];
+      entries = core.entries ++ due_entry core caller number op ∷ [];
       events = min (core.events + 1) last_event;
       spare_calls = core.spare_calls - 1;
     }

@@ -11,7 +11,8 @@ use ff_model::{Op, Reply};
 /// Answers a call at an event number. No page is refused for want of a place.
 pub fn answer(pages: &mut [PageBuf], event: u64, op: &Op) -> Reply
     requires { length pages.old < 2 ^ 32 }
-    ensures reply { result ≡ reply_over (length pages.old) false (page_byte pages.old) event op.now }
+    ensures reply { result
+        ≡ reply_over (length pages.old) false (page_byte pages.old) event op.now }
     ensures bytes { LeavesBytes pages.old op.now result pages.new }
 {
     if !op.is_in_range(pages.len() as u32) {

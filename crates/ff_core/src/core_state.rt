@@ -62,7 +62,7 @@ impl Model for Core {
 }
 
 impl Core {
-    ghost use Rattle.ff_core.specs.Core.{after_call, entry_of, fresh_core};
+    ghost use Rattle.ff_core.specs.Core.{after_call, due_entry, fresh_core};
     ghost use Rattle.ff_core.specs.Record.{record_of};
 
     /// A first session: no page was stored, and the event number is 0. The device holds every page.
@@ -91,7 +91,7 @@ impl Core {
     pub fn drive(&mut self, caller: Caller, number: u32, op: &Op) -> Driven
         requires { 0 < self.old.spare_calls }
         ensures state { self.new ≡ after_call self.old caller number op.now }
-        ensures reply { result ≡ Served (entry_of self.old caller number op.now).reply }
+        ensures reply { result ≡ Served (due_entry self.old caller number op.now).reply }
     {
         let event = self.events;
         let reply = answer(&mut self.pages, event, op);

@@ -72,7 +72,8 @@ pub fn load(pages: &[PageBuf], at: u32, len: u32) -> Piece
 fn store_in(page: &mut PageBuf, line: u8, from: u8, bytes: &Piece)
     requires line { line < 64 }
     requires len { from + length bytes.now ≤ LINE_BYTES }
-    ensures bytes { page.new ≡ with_line page.old line (overlaid (line_of page.old line) from bytes.now) }
+    ensures bytes { page.new
+        ≡ with_line page.old line (overlaid (line_of page.old line) from bytes.now) }
     ensures size { length page.old ≡ PAGE_BYTES }
 {
     let mut line_bytes = page.line(line);

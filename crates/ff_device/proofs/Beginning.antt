@@ -1,7 +1,7 @@
 -- A device of parts with nothing in flight.
-use Rattle.std.proofs.Common.{◌≡◌, true, false, List, [], None, Some, sym, ◌∙◌}
+use Rattle.std.proofs.Common.{◌≡◌, true, false, None, Some, sym, ◌∙◌}
 use Rattle.std.proofs.lemmas.List.Elements.{All-nil}
-use Rattle.ff_lines.specs.Posts.{IsPost, waits_in}
+use Rattle.ff_lines.specs.Posts.{IsPost}
 use Rattle.ff_device.specs.Parts.{CanBegin, IsDeviceSound, Parts}
 
 pub begins : (parts : Parts) → CanBegin parts → IsDeviceSound parts

@@ -1,10 +1,10 @@
 -- Draining some posts, then some more, then all.
-use Rattle.std.proofs.Common.{◌≡◌, ◌<◌, ◌≤◌, ℕ, ◌+◌, ◌==◌, ◌||◌, Bool, List, [], ◌∷◌, ◌++◌, length, take, drop, refl, sym, ap, ◌∙◌, arith}
+use Rattle.std.proofs.Common.{◌≡◌, ◌≤◌, ℕ, ◌+◌, ◌==◌, ◌||◌, List, [], ◌∷◌, ◌++◌, length, take, drop, refl, sym, ap, ◌∙◌, arith}
 use Rattle.std.proofs.Math.Seq.{take-add}
 use Rattle.std.proofs.Math.ListN.{drop_of_length-le}
 use Rattle.std.proofs.lemmas.List.{drop-drop, length-take, take-append-drop, take_all}
 use Rattle.ff_cache.specs.Cache.{CacheView}
-use Rattle.ff_lines.specs.DeviceState.{DeviceState, AllDrained, IsDrained, IsPosted, SameResidence, SameSizes}
+use Rattle.ff_lines.specs.DeviceState.{DeviceState, IsDrained, IsPosted, SameResidence}
 use Rattle.ff_lines.specs.PageSets.{with_page, SameSet}
 use Rattle.ff_lines.specs.Posts.{laid}
 use Rattle.ff_lines.specs.declared.post.Post.{Post}

@@ -1,14 +1,11 @@
 -- A device of which the slot of one page was changed, whose bytes stay.
-use Rattle.std.proofs.Common.{◌≡◌, ◌≢◌, ◌<◌, ◌≤◌, inl, inr, ℕ, ◌+◌, ◌||◌, ◌⊎◌, Bool, true, false, List, [], length, refl, sym, ap, ◌∙◌, arith, Option, Some, None}
-use Rattle.std.specs.Prelude.{All}
+use Rattle.std.proofs.Common.{◌≡◌, ◌≢◌, inl, inr, ℕ, false, List, length, refl, sym, ap, ◌∙◌, Some}
 use Rattle.std.proofs.lemmas.Bool.{cases_eq}
 use Rattle.ff_cache.specs.declared.slot.Slot.{Slot}
-use Rattle.ff_lines.specs.DeviceState.{DeviceState, SameLines, SameResidence}
-use Rattle.ff_lines.specs.PageSets.{count_below, SameSet}
-use Rattle.ff_lines.specs.Posts.{waits_in}
+use Rattle.ff_lines.specs.DeviceState.{SameLines}
 use Rattle.ff_lines.proofs.PageCounts.{count_below-same}
 use Rattle.ff_device.specs.DeviceFields.{lines_of}
-use Rattle.ff_device.specs.Parts.{Parts, cached, bytes_over, is_dirty, is_pinned, is_resident, is_written, line_below, page_below, slot_passes, IsDeviceSound, IsFlushing}
+use Rattle.ff_device.specs.Parts.{Parts, cached, is_pinned, is_resident, is_written, page_below, IsDeviceSound, IsFlushing}
 use Rattle.ff_device.specs.Store.{Pending, mapped, page_bytes}
 use Rattle.ff_lines.specs.BlankLine.{line_or_blank}
 use Rattle.ff_device.proofs.Holding.{Changed}

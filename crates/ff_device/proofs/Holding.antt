@@ -1,5 +1,5 @@
 -- Which slot holds a page after one slot was changed, or filled with another page.
-use Rattle.std.proofs.Common.{◌≡◌, ◌≢◌, ◌<◌, inl, inr, ℕ, ◌⊎◌, Bool, true, false, List, length, set, refl, sym, ap, ◌∙◌, arith, Option, Some, None, length-set, get_or-set_same, get_or-set_other}
+use Rattle.std.proofs.Common.{◌≡◌, ◌≢◌, ◌<◌, inl, inr, ℕ, true, false, List, length, set, sym, ap, ◌∙◌, arith, Some, None, length-set, get_or-set_same, get_or-set_other}
 use Rattle.std.proofs.lemmas.Bool.{cases_eq, false_from_ne_true}
 use Rattle.std.proofs.lemmas.List.Folds.{find_past}
 use Rattle.ff_cache.specs.Cache.{CacheView, IsCacheSound}
@@ -25,9 +25,9 @@ changed_at cache page k after sound within is also before =
     let inside : k < length (set slots k after) = omega arith in
     let found : held (set slots k after) page ≡ Some (slot_at (set slots k after) k) =
     held_first (set slots k after) page k inside (rw same also) (λ j below.
-        let apart : j ≢ k = omega arith in
-        rw (get_or-set_other slots k j after empty_slot apart) (false_from_ne_true (holds (slot_at slots j) page) (λ twice.
-            let one : j ≡ k = sound.slots.unique j k page (omega arith) within twice is in absurd (omega arith)))) in
+    let apart : j ≢ k = omega arith in
+    rw (get_or-set_other slots k j after empty_slot apart) (false_from_ne_true (holds (slot_at slots j) page) (λ twice.
+    let one : j ≡ k = sound.slots.unique j k page (omega arith) within twice is in absurd (omega arith)))) in
     record {
       before = before;
       here = found ∙ ap (λ (slot : Slot). Some slot) same;
@@ -41,7 +41,7 @@ pub changed_by : (page : ℕ) (change : Slot → Slot) (old new : CacheView) →
     → Changed page (slot_at old.slots changes.place) (change (slot_at old.slots changes.place)) old.slots new.slots
 changed_by page change old new sound changes same =
     rw changes.is (changed_at old page changes.place (change (slot_at old.slots changes.place)) sound changes.within changes.holds
-        (rw same changes.holds) changes.held)
+    (rw same changes.holds) changes.held)
 
 -- a slot was filled with a page that was held nowhere
 pub record Replaced (page : ℕ) (gone filled : Slot) (old new : List Slot) : Type 0 where
@@ -61,8 +61,8 @@ replaced_at cache page k filled sound within absent is =
     let inside : k < length (set slots k filled) = omega arith in
     let found : held (set slots k filled) page ≡ Some (slot_at (set slots k filled) k) =
     held_first (set slots k filled) page k inside (rw same is) (λ j below.
-        let apart : j ≢ k = omega arith in
-        rw (get_or-set_other slots k j filled empty_slot apart) (none_holds slots page j absent (omega arith))) in
+    let apart : j ≢ k = omega arith in
+    rw (get_or-set_other slots k j filled empty_slot apart) (none_holds slots page j absent (omega arith))) in
     record {
       absent = absent;
       here = found ∙ ap (λ (slot : Slot). Some slot) same;
@@ -71,11 +71,11 @@ replaced_at cache page k filled sound within absent is =
       left = λ p holds_it. held_none (set slots k filled) p (λ j below. elim (cases_eq j k) [
         | inl one ↦
             rw (one, same) (holds_one filled page p is (λ e.
-                let nowhere : holds (slot_at slots k) page ≡ false = none_holds slots page k absent within in
-                let there : holds (slot_at slots k) page ≡ true = rw (sym e) holds_it in absurd (cc)))
+            let nowhere : holds (slot_at slots k) page ≡ false = none_holds slots page k absent within in
+            let there : holds (slot_at slots k) page ≡ true = rw (sym e) holds_it in absurd (cc)))
         | inr apart ↦
             rw (get_or-set_other slots k j filled empty_slot apart) (false_from_ne_true (holds (slot_at slots j) p) (λ twice.
-                apart (sound.slots.unique j k p (omega arith) within twice holds_it)))
+            apart (sound.slots.unique j k p (omega arith) within twice holds_it)))
       ]);
       others = λ p apart not_gone. find_past (λ slot. holds slot p) slots k filled empty_slot not_gone (holds_one filled page p is apart);
     }

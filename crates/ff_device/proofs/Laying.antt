@@ -1,19 +1,14 @@
 -- The oldest post left the window and was laid over its page's slot.
-use Rattle.std.proofs.Common.{◌≡◌, ◌≢◌, ◌<◌, ◌≤◌, inl, inr, ℕ, zero, suc, ◌+◌, ◌==◌, ◌||◌, ◌⊎◌, Bool, true, false, List, [], ◌∷◌, ◌++◌, length, take, drop, set, refl, sym, ap, ◌∙◌, arith, Option, Some, None, get_or-set_same, get_or-set_other}
-use Rattle.std.specs.Prelude.{All}
+use Rattle.std.proofs.Common.{◌≡◌, ◌≢◌, inl, inr, ℕ, ◌+◌, ◌==◌, ◌||◌, Bool, true, false, List, ◌∷◌, length, refl, sym, ap, ◌∙◌, Some, get_or-set_same, get_or-set_other}
 use Rattle.std.proofs.lemmas.Bool.{cases_eq, eq-eqb, ne_eqb, or_left, or_right}
 use Rattle.std.proofs.lemmas.List.Elements.{All-head, All-tail}
 use Rattle.ff_cache.specs.Cache.{CacheView, IsCacheSound}
 use Rattle.ff_cache.specs.Slots.{empty_slot, slot_at}
 use Rattle.ff_cache.specs.declared.slot.Slot.{Slot}
-use Rattle.ff_lines.specs.BlankLine.{line_or_blank}
-use Rattle.ff_lines.specs.Overlay.{page_overlaid}
-use Rattle.ff_lines.specs.PageSets.{count_below}
-use Rattle.ff_lines.specs.Posts.{laid, laid_on, waits_in, IsPost}
+use Rattle.ff_lines.specs.Posts.{laid_on, waits_in, IsPost}
 use Rattle.ff_lines.specs.declared.post.Post.{Post}
 use Rattle.ff_lines.proofs.PageCounts.{count_below-same}
 use Rattle.ff_lines.proofs.PageOverlaid.{length-page_overlaid, line_or_blank-laid, laid_on-other}
-use Rattle.ff_window.specs.Window.{WindowView}
 use Rattle.ff_device.specs.Changes.{slot_after, Changes}
 use Rattle.ff_device.specs.DeviceFields.{lines_of}
 use Rattle.ff_device.specs.Draining.{DrainsFirst, SameFrames}

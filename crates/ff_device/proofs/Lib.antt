@@ -7,3 +7,17 @@ pub mod Lines
 pub mod Touching
 pub mod Pinning
 pub mod Posting
+pub mod Fetches
+pub mod Masks
+pub mod Stopping
+pub mod Choices
+pub mod Oldest
+pub mod Programming
+pub mod Sealing
+pub mod Falls
+pub mod Frames
+pub mod Keeping
+pub mod Raising
+pub mod Working
+pub mod Arriving
+pub mod Collecting

@@ -1,25 +1,23 @@
 -- A device is one of lines.
-use Rattle.std.proofs.Common.{◌≡◌, ◌≢◌, ◌<◌, ◌≤◌, inl, inr, ℕ, suc, ◌+◌, ◌==◌, ◌||◌, ◌⊎◌, ◌↔◌, Bool, true, false, List, [], ◌∷◌, ◌++◌, length, refl, sym, ap, ◌∙◌, arith, Option, Some, None, append_assoc}
+use Rattle.std.proofs.Common.{◌≡◌, ◌≤◌, inl, inr, ℕ, suc, ◌+◌, ◌==◌, ◌||◌, ◌↔◌, Bool, true, false, List, [], ◌∷◌, ◌++◌, length, refl, sym, arith, Option, Some, None}
 use Rattle.std.specs.Option.{is_some}
-use Rattle.std.specs.Prelude.{All, if◌then◌else◌}
+use Rattle.std.specs.Prelude.{if◌then◌else◌}
 use Rattle.std.proofs.lemmas.Bool.{cases_eq, eq-eqb, ne_eqb, or_cases, eqb-true}
 use Rattle.std.proofs.lemmas.List.Elements.{All-append, All-cons, All-nil}
 use Rattle.std.proofs.lemmas.List.Folds.{list_any-append}
 use Rattle.ff_cache.specs.Cache.{is_full_set, way_at}
-use Rattle.ff_cache.specs.Slots.{slot_at}
 use Rattle.ff_cache.specs.declared.slot.Slot.{Slot}
-use Rattle.ff_lines.specs.DeviceState.{IsDevice, SameResidence}
+use Rattle.ff_lines.specs.DeviceState.{IsDevice}
 use Rattle.ff_lines.specs.PageSets.{count_below, with_page}
 use Rattle.ff_lines.specs.Posts.{waits_in, IsPost}
 use Rattle.ff_lines.specs.declared.post.Post.{Post}
 use Rattle.ff_lines.proofs.PageCounts.{count_below-same}
 use Rattle.ff_lines.proofs.PageOverlaid.{length-line_or_blank}
-use Rattle.ff_window.specs.Window.{WindowView}
 use Rattle.ff_device.specs.DeviceFields.{lines_of}
-use Rattle.ff_device.specs.Parts.{cached, is_dirty, is_resident, is_pinned, is_written, page_below, slot_passes, IsDeviceSound, Parts}
-use Rattle.ff_device.specs.Steps.{chosen_way, flush_steps, most_steps, soon_clean, steps_of_set, steps_of_slot, steps_of_way, steps_to}
-use Rattle.ff_device.specs.Store.{is_mapped, IsStore, StoreView}
-use Rattle.ff_device.proofs.Drained.{residence_same, PutsLast}
+use Rattle.ff_device.specs.Parts.{cached, is_dirty, is_resident, is_written, page_below, slot_passes, IsDeviceSound, Parts}
+use Rattle.ff_device.specs.Steps.{chosen_way, flush_steps, most_steps, soon_clean, steps_of_set, steps_of_way, steps_to}
+use Rattle.ff_device.specs.Store.{is_mapped, IsStoreViewSound, StoreView}
+use Rattle.ff_device.proofs.Drained.{PutsLast}
 
 either_most : (pending : Bool) (most left : ℕ) → left ≤ most → (if pending then most else left) ≤ most
 either_most true most left few = omega arith
@@ -54,7 +52,7 @@ steps_bounded parts page few =
     let set = if_at_most (is_full_set parts.cache page) (steps_of_way parts page (chosen_way parts page)) (parts.store.most_left + 3) way in
     let pending = one_at_most (is_some parts.store.pending) in
     at_most_if (is_resident parts page) (suc ((if is_some parts.store.pending then 1 else 0) + steps_of_set parts page)) (most_steps parts.store)
-        (omega arith)
+    (omega arith)
 
 zero_or_more : (resident : Bool) (n : ℕ) → ((if resident then 0 else suc n) ≡ 0) ↔ (resident ≡ true)
 zero_or_more true n = (λ _. refl, λ _. refl)
@@ -65,7 +63,7 @@ pinned_held None is = cc
 pinned_held (Some slot) is = refl
 
 -- what every device keeps
-pub lines_device : (parts : Parts) → IsDeviceSound parts → IsStore parts.store → IsDevice (lines_of parts)
+pub lines_device : (parts : Parts) → IsDeviceSound parts → IsStoreViewSound parts.store → IsDevice (lines_of parts)
 lines_device parts sound store = record {
   sizes = λ page line. length-line_or_blank (page_below parts page) line (sound.size page);
   within = sound.pages;

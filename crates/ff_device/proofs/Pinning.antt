@@ -1,6 +1,5 @@
 -- The slot of a page was pinned, or let go.
-use Rattle.std.proofs.Common.{◌≡◌, ◌≢◌, inl, inr, ℕ, ◌+◌, ◌==◌, ◌⊎◌, Bool, true, false, length, refl, sym, ap, ◌∙◌, Option, Some, None}
-use Rattle.std.specs.Prelude.{if◌then◌else◌}
+use Rattle.std.proofs.Common.{◌≡◌, inl, inr, ℕ, ◌+◌, Bool, length, refl, sym, ap, ◌∙◌}
 use Rattle.std.proofs.lemmas.Bool.{cases_eq, eq-eqb, ne_eqb}
 use Rattle.ff_cache.specs.Cache.{IsCacheSound}
 use Rattle.ff_cache.specs.Slots.{slot_at, slot_pinned}
@@ -8,8 +7,7 @@ use Rattle.ff_cache.specs.declared.slot.Slot.{Slot}
 use Rattle.ff_lines.specs.DeviceState.{IsPinned}
 use Rattle.ff_device.specs.Changes.{Changes}
 use Rattle.ff_device.specs.DeviceFields.{lines_of}
-use Rattle.ff_device.specs.Parts.{cached, is_pinned, IsDeviceSound, IsFlushing, Parts}
-use Rattle.ff_device.specs.Store.{page_bytes, Pending}
+use Rattle.ff_device.specs.Parts.{IsDeviceSound, Parts}
 use Rattle.ff_device.proofs.Edits.{edited_flushing, edited_lines, edited_resident, edited_sound, edited_written, Edited}
 use Rattle.ff_device.proofs.Holding.{changed_by}
 
@@ -41,10 +39,10 @@ pub pinning_sound : (page : ℕ) (on : Bool) (old new : Parts) → Pinning page 
 pinning_sound page on old new p =
     let e = pinning_edited page on old new p in
     edited_sound page (slot_of page on old new p) (slot_pinned on (slot_of page on old new p)) old new e p.sound
-        (λ clean. rw p.store (p.sound.clean page (slot_of page on old new p) e.changed.before clean))
-        (λ flush pending.
-            edited_flushing page (slot_of page on old new p) (slot_pinned on (slot_of page on old new p)) old new e flush
-                (p.sound.flushing flush (ap (λ s. s.pending) (sym p.store) ∙ pending)) refl (λ h. h))
+    (λ clean. rw p.store (p.sound.clean page (slot_of page on old new p) e.changed.before clean))
+    (λ flush pending.
+    edited_flushing page (slot_of page on old new p) (slot_pinned on (slot_of page on old new p)) old new e flush
+    (p.sound.flushing flush (ap (λ s. s.pending) (sym p.store) ∙ pending)) refl (λ h. h))
 
 pub pinning_lines : (page : ℕ) (on : Bool) (old new : Parts) → Pinning page on old new → IsPinned page on (lines_of old) (lines_of new)
 pinning_lines page on old new p =

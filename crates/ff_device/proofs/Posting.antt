@@ -19,4 +19,4 @@ pub put_posted : (full : Bool) (post : Post) (a : DeviceState) (mid touched new 
     → IsPosted post a (lines_of new)
 put_posted full post a mid touched new values drained same last =
     rw (last, same) (puts_after (if full then 1 else 0) post a (lines_of (with_values values mid)) (lines_of (with_post post (with_values values mid)))
-        (few_drained full) (drains_values (if full then 1 else 0) a mid values drained) (posted_last post (with_values values mid)))
+    (few_drained full) (drains_values (if full then 1 else 0) a mid values drained) (posted_last post (with_values values mid)))

@@ -1,17 +1,15 @@
 -- A device of which the values alone were changed.
-use Rattle.std.proofs.Common.{◌≡◌, ◌<◌, ◌≤◌, ℕ, Bool, true, false, List, refl, sym, ap, ◌∙◌, arith, Option, Some, None}
-use Rattle.std.specs.Option.{is_some}
-use Rattle.std.specs.Prelude.{if◌then◌else◌, nat_lt}
+use Rattle.std.proofs.Common.{◌≡◌, ◌<◌, ℕ, Bool, true, false, List, refl, sym, ap, ◌∙◌}
+use Rattle.std.specs.Prelude.{if◌then◌else◌}
 use Rattle.std.proofs.lemmas.Bool.{lt-ltb}
 use Rattle.ff_base.specs.Page.{line_of}
 use Rattle.ff_cache.specs.Cache.{with_value, CacheView, IsSlotOf}
-use Rattle.ff_cache.specs.Slots.{held, holds, slot_at}
-use Rattle.ff_lines.specs.BlankLine.{line_or_blank}
-use Rattle.ff_lines.specs.DeviceState.{DeviceState, AllDrained, IsDrained, SameResidence}
+use Rattle.ff_cache.specs.Slots.{slot_at}
+use Rattle.ff_lines.specs.DeviceState.{DeviceState, IsDrained, SameResidence}
 use Rattle.ff_rrip.specs.Ways.{near_value}
 use Rattle.ff_device.specs.DeviceFields.{lines_of}
-use Rattle.ff_device.specs.Draining.{DrainsFirst, HitIf, IsHit, SameFrames}
-use Rattle.ff_device.specs.Parts.{line_below, page_below, IsDeviceSound, Parts}
+use Rattle.ff_device.specs.Draining.{DrainsFirst, HitIf, SameFrames}
+use Rattle.ff_device.specs.Parts.{line_below, IsDeviceSound, Parts}
 
 abbrev pub with_values : List (List ℕ) → Parts → Parts
 with_values values parts = record parts { cache = record parts.cache { values = values } }

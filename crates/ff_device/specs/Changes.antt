@@ -1,5 +1,6 @@
 -- What is done to the slot of one page.
-use Rattle.std.specs.Prelude.{ℕ, ◌<◌, ◌≡◌, true, length, Some, slice_set}
+use Rattle.std.specs.Prelude.{ℕ, ◌<◌, ◌≡◌, true, List, length, Option, Some, slice_set}
+use Rattle.ff_base.specs.declared.numbers.PageNo.{PageNo}
 use Rattle.ff_cache.specs.Cache.{CacheView}
 use Rattle.ff_cache.specs.Slots.{held, holds, slot_at, slot_written}
 use Rattle.ff_cache.specs.declared.slot.Slot.{Slot}
@@ -16,3 +17,8 @@ pub record Changes (page : ℕ) (change : Slot → Slot) (old new : CacheView) :
 -- the slot with a post laid over its page
 abbrev pub slot_after : Post → Slot → Slot
 slot_after post slot = slot_written slot post.line post.from post.bytes
+
+-- a post of a piece
+abbrev pub post_of : PageNo → ℕ → ℕ → List ℕ → Option ℕ → Post
+post_of page line from bytes position =
+    record { page = page; line = line; from = from; bytes = bytes; position = position }

@@ -1,23 +1,28 @@
 -- The way that gives way, as a function of the values and of which ways may.
-use Rattle.std.specs.Prelude.{ℕ, ◌+◌, Bool, List, [], ◌∷◌, nat_lt, if◌then◌else◌, Option, None, Some, option_map}
+use Rattle.std.specs.Prelude.{ℕ, suc, Bool, List, [], ◌∷◌, nat_lt, if◌then◌else◌, Option, None, Some, option_map}
 
 -- a way with its value
 pub record Candidate : Type 0 where
   pub way : ℕ
   pub value : ℕ
 
--- the first candidate, unless the later one has a greater value
-abbrev pub greater : Candidate → Option Candidate → Candidate
-greater first None = first
-greater first (Some later) = if nat_lt first.value later.value then later else first
+-- a way of the later ones, counted from the first on
+abbrev pub next_way : Candidate → Candidate
+next_way later = record { way = suc later.way; value = later.value }
 
--- of the ways from one on that may give way, the first of those with the greatest value
-abbrev pub oldest_from : ℕ → (ℕ → Bool) → List ℕ → Option Candidate
-oldest_from way may [] = None
-oldest_from way may (value ∷ later) =
-    if may way then Some (greater (record { way = way; value = value }) (oldest_from (way + 1) may later))
-    else oldest_from (way + 1) may later
+-- the first way, unless a later one has a greater value
+abbrev pub greater : ℕ → Option Candidate → Candidate
+greater value None = record { way = 0; value = value }
+greater value (Some later) =
+    if nat_lt value later.value then next_way later else record { way = 0; value = value }
+
+-- of the ways that may give way, the first of those with the greatest value
+abbrev pub oldest : (ℕ → Bool) → List ℕ → Option Candidate
+oldest may [] = None
+oldest may (value ∷ later) =
+    let rest = oldest (λ way. may (suc way)) later in
+    if may 0 then Some (greater value rest) else option_map next_way rest
 
 -- the way that gives way
 abbrev pub chosen : (ℕ → Bool) → List ℕ → Option ℕ
-chosen may values = option_map (λ c. c.way) (oldest_from 0 may values)
+chosen may values = option_map (λ c. c.way) (oldest may values)

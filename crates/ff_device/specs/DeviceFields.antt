@@ -1,5 +1,5 @@
 -- How a device's fields show, and the device as one of lines.
-use Rattle.std.specs.Prelude.{ℕ, List, length}
+use Rattle.std.specs.Prelude.{length}
 use Rattle.ff_cache.specs.Cache.{CacheView}
 use Rattle.ff_lines.specs.DeviceState.{DeviceState}
 use Rattle.ff_window.specs.Window.{WindowView}
@@ -15,7 +15,8 @@ pub record DeviceView (S : Type 0) : Type 0 where
 
 -- the parts, with the store as it is seen
 abbrev pub parts_of : {S : Type 0} → (S → StoreView) → DeviceView S → Parts
-parts_of seen device = record { store = seen device.store; cache = device.cache; window = device.window }
+parts_of seen device =
+    record { store = seen device.store; cache = device.cache; window = device.window }
 
 abbrev pub lines_of : Parts → DeviceState
 lines_of parts = record {
@@ -32,3 +33,7 @@ lines_of parts = record {
   steps = steps_to parts;
   most_steps = most_steps parts.store;
 }
+
+-- a device as one of lines
+abbrev pub lines_in : {S : Type 0} → (S → StoreView) → DeviceView S → DeviceState
+lines_in seen device = lines_of (parts_of seen device)

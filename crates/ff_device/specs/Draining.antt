@@ -10,7 +10,8 @@ use Rattle.ff_rrip.specs.Ways.{near_value}
 -- so many of the oldest posts were drained, or all where fewer waited, and nothing else was done
 pub record DrainsFirst (count : ℕ) (old new : DeviceState) : Type 0 where
   pub posts : new.posts ≡ drop count old.posts
-  pub below : (page line : ℕ) → new.below page line ≡ laid page line (take count old.posts) (old.below page line)
+  pub below : (page line : ℕ) → new.below page line
+      ≡ laid page line (take count old.posts) (old.below page line)
   pub pinned : SameSet old.pinned new.pinned
   pub written : SameSet old.written new.written
   pub residence : SameResidence old new

@@ -47,7 +47,8 @@ is_dirty parts page = slot_passes (λ slot. slot.dirty) (cached parts page)
 
 -- the page is mapped, is cached dirty or has a waiting post
 abbrev pub is_written : Parts → ℕ → Bool
-is_written parts page = is_mapped parts.store page || (is_dirty parts page || waits_in parts.window.posts page)
+is_written parts page =
+    is_mapped parts.store page || (is_dirty parts page || waits_in parts.window.posts page)
 
 -- the flush that is to be sealed is of a dirty slot, which holds the programmed bytes unless it was touched since
 pub record IsFlushing (parts : Parts) (flush : Pending) : Type 0 where

@@ -2,7 +2,7 @@
 use Rattle.std.specs.Prelude.{ℕ, suc, ◌+◌, ◌-◌, ◌≡◌, ◌&&◌, ◌||◌, Bool, true, false, not, List, if◌then◌else◌, Option, None, Some}
 use Rattle.std.specs.Option.{is_some}
 use Rattle.ff_base.specs.declared.numbers.PageNo.{PageNo}
-use Rattle.ff_cache.specs.Cache.{first_of, is_full_set, values_of, way_at, CacheView, IsInSet}
+use Rattle.ff_cache.specs.Cache.{first_of, is_full_set, values_of, way_at, IsInSet}
 use Rattle.ff_cache.specs.Slots.{holds, slot_at}
 use Rattle.ff_cache.specs.declared.slot.Slot.{Slot}
 use Rattle.ff_lines.specs.Posts.{waits_in}
@@ -54,7 +54,8 @@ steps_of_way parts page (Some way) = steps_of_slot parts.store (way_at parts.cac
 
 -- the steps before the page can be fetched, where no flush is to be sealed
 abbrev pub steps_of_set : Parts → ℕ → ℕ
-steps_of_set parts page = if is_full_set parts.cache page then steps_of_way parts page (chosen_way parts page) else 0
+steps_of_set parts page =
+    if is_full_set parts.cache page then steps_of_way parts page (chosen_way parts page) else 0
 
 -- the steps until the page is resident: 0 exactly where it is
 abbrev pub steps_to : Parts → ℕ → ℕ
@@ -65,9 +66,3 @@ steps_to parts page =
 -- the most that it can be
 abbrev pub most_steps : StoreView → ℕ
 most_steps store = store.most_left + 5
-
--- the slot is the way of the page's set that replacement chose
-pub record IsChoice (parts : Parts) (page slot : ℕ) : Type 0 where
-  pub in_set : IsInSet parts.cache page slot
-  pub goes : may_go parts.window.posts (slot_at parts.cache.slots slot) ≡ true
-  pub chosen : chosen_way parts page ≡ Some (slot - first_of parts.cache page)

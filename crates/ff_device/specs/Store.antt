@@ -21,6 +21,8 @@ pub record StoreView : Type 0 where
   pub left : ℕ
   -- the most that these can be
   pub most_left : ℕ
+  -- a collection runs, or is due
+  pub wants : Bool
   -- how many pages may be mapped
   pub capacity : ℕ
   -- the power is on
@@ -42,7 +44,7 @@ abbrev pub page_bytes : StoreView → ℕ → List ℕ
 page_bytes store page = unwrap_or (mapped store page) blank_page
 
 -- what every store keeps
-pub record IsStore (store : StoreView) : Type 0 where
+pub record IsStoreViewSound (store : StoreView) : Type 0 where
   pub few : store.left ≤ store.most_left
   pub pages : length store.pages < 2 ^ 32
   pub pending : (flush : Pending) → store.pending ≡ Some flush → flush.page < length store.pages
@@ -82,7 +84,8 @@ pub record SameStore (old new : StoreView) : Type 0 where
 
 -- a step of the flush of a page
 abbrev pub Flushes : ℕ → List ℕ → Result FlushStep FlashStop → StoreView → StoreView → Type 0
-Flushes page bytes (Ok Programmed) old new = new.pending ≡ Some (record { page = page; bytes = bytes })
+Flushes page bytes (Ok Programmed) old new =
+    new.pending ≡ Some (record { page = page; bytes = bytes })
 Flushes page bytes (Ok Collected) old new = (new.pending ≡ None) × (new.left < old.left)
 Flushes page bytes (Ok (Sealed other)) old new = ⊥
 Flushes page bytes (Err stop) old new = new.pending ≡ None
@@ -96,8 +99,8 @@ pub record SealsPage (page : ℕ) (old new : StoreView) : Type 0 where
   pub done : new.pending ≡ None
 
 -- a seal of the flush that waits
-abbrev pub Seals : Result FlushStep FlashStop → StoreView → StoreView → Type 0
-Seals (Ok (Sealed page)) old new = SealsPage page.0 old new
-Seals (Ok _) old new = ⊥
-Seals (Err Failed) old new = (new.pages ≡ old.pages) × (new.pending ≡ None)
-Seals (Err Off) old new = (new.pages ≡ old.pages) × (new.pending ≡ old.pending)
+abbrev pub SealsFlush : Result FlushStep FlashStop → StoreView → StoreView → Type 0
+SealsFlush (Ok (Sealed page)) old new = SealsPage page.0 old new
+SealsFlush (Ok _) old new = ⊥
+SealsFlush (Err Failed) old new = (new.pages ≡ old.pages) × (new.pending ≡ None)
+SealsFlush (Err Off) old new = (new.pages ≡ old.pages) × (new.pending ≡ old.pending)

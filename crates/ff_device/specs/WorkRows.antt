@@ -1,24 +1,19 @@
 -- The rows of a step of work, the first of which that applies is made.
-use Rattle.std.specs.Prelude.{ℕ, ◌+◌, ◌-◌, ◌<◌, ◌≤◌, ◌≡◌, Bool, true, false, List, [], length, Option, None, Some, slice_set}
+use Rattle.std.specs.Prelude.{ℕ, ◌<◌, ◌≡◌, ◌⊎◌, true, false, None, Some, slice_set}
 use Rattle.std.specs.Option.{is_some}
 use Rattle.ff_base.specs.declared.numbers.PageNo.{PageNo}
-use Rattle.ff_cache.specs.Cache.{first_of, is_full_set, way_at, with_value, CacheView, IsChosen, IsEmptyWay, IsInSet, SameSlots}
+use Rattle.ff_cache.specs.Cache.{is_full_set, way_at, with_value, IsChosen, IsEmptyWay}
 use Rattle.ff_cache.specs.Slots.{slot_at, slot_filled, slot_flushed, slot_flushing}
-use Rattle.ff_flash.specs.declared.flash.FlashStop.{FlashStop}
-use Rattle.ff_flash.specs.declared.flash.FlashStop.TheVariants.{Failed as FlashFailed, Off as FlashOff}
+use Rattle.ff_lines.specs.DeviceState.{IsDrained}
 use Rattle.ff_lines.specs.declared.device.Work.{Work}
 use Rattle.ff_lines.specs.declared.device.Work.TheVariants.{Ready, Stepped, Pinned, Failed, Off}
 use Rattle.ff_rrip.specs.Ways.{is_allowed, long_value}
 use Rattle.ff_device.specs.Changes.{Changes}
-use Rattle.ff_device.specs.Chosen.{chosen}
-use Rattle.ff_device.specs.Parts.{is_resident, Parts}
-use Rattle.ff_device.specs.Steps.{chosen_way, may_go_at, IsChoice}
-use Rattle.ff_device.specs.Store.{page_bytes, DidFail, Pending, SealsPage, StoreView, WentOff, WentOn}
-
--- the answer where the store stopped
-abbrev pub stopped_work : FlashStop → Work
-stopped_work FlashFailed = Failed
-stopped_work FlashOff = Off
+use Rattle.ff_device.specs.DeviceFields.{lines_of}
+use Rattle.ff_device.specs.Draining.{SameFrames}
+use Rattle.ff_device.specs.Parts.{Parts}
+use Rattle.ff_device.specs.Steps.{chosen_way, may_go_at}
+use Rattle.ff_device.specs.Store.{page_bytes, DidFail, SealsPage, StoreView, WentOff, WentOn}
 
 -- what an answer says of power, operations and faults
 abbrev pub Powered : Work → StoreView → StoreView → Type 0
@@ -33,7 +28,7 @@ pub record IsStopped (old new : Parts) : Type 0 where
   pub pages : new.store.pages ≡ old.store.pages
 
 -- the flush that waited was sealed: the slot of its page is clean, unless it was touched since the program
-pub record IsSealed (old new : Parts) : Type 0 where
+pub record HasSealed (old new : Parts) : Type 0 where
   pub page : ℕ
   pub sealed : SealsPage page old.store new.store
   pub cache : Changes page slot_flushed old.cache new.cache
@@ -56,7 +51,8 @@ pub record IsProgrammed (slot : ℕ) (old new : Parts) : Type 0 where
   pub cache : Changes page.0 slot_flushing old.cache new.cache
   pub window : new.window ≡ old.window
   pub pages : new.store.pages ≡ old.store.pages
-  pub pending : new.store.pending ≡ Some (record { page = page.0; bytes = (slot_at old.cache.slots slot).bytes })
+  pub pending : new.store.pending ≡ Some
+      (record { page = page.0; bytes = (slot_at old.cache.slots slot).bytes })
 
 -- the store made a collection step
 pub record IsCollected (old new : Parts) : Type 0 where
@@ -71,15 +67,83 @@ pub record IsPinnedSet (page : ℕ) (named : PageNo) (old : Parts) : Type 0 wher
 
 -- a way of the page's set isn't pinned
 pub record HasUnpinned (page : ℕ) (old : Parts) : Type 0 where
-  pub slot : ℕ
-  pub in_set : IsInSet old.cache page slot
-  pub unpinned : (slot_at old.cache.slots slot).pinned ≡ false
+  pub way : ℕ
+  pub within : way < old.cache.ways
+  pub unpinned : (way_at old.cache page way).pinned ≡ false
 
--- the way that gives way was chosen, for which the values of its set may have been raised
+-- the way that gives way was chosen among those that may, and the values of the set alone may have been raised for it
 pub record IsRaised (page slot : ℕ) (old new : Parts) : Type 0 where
   pub allowed : ℕ
   pub ways : (way : ℕ) → way < old.cache.ways → is_allowed allowed way ≡ may_go_at old page way
   pub chosen : IsChosen allowed page old.cache new.cache slot
-  pub slots : SameSlots old.cache new.cache
-  pub store : new.store ≡ old.store
-  pub window : new.window ≡ old.window
+  pub is : new ≡ record old { cache = record old.cache { values = new.cache.values } }
+
+-- a seal of the flush that waits
+abbrev pub SealRow : Work → Parts → Parts → Type 0
+SealRow Stepped old new = HasSealed old new
+SealRow Failed old new = IsStopped old new × (new.store.pending ≡ None)
+SealRow Off old new = IsStopped old new × (new.store.pending ≡ old.store.pending)
+SealRow Ready old new = ⊥
+SealRow (Pinned other) old new = ⊥
+
+-- a fetch of a page into a slot
+abbrev pub FetchRow : ℕ → ℕ → Work → Parts → Parts → Type 0
+FetchRow page slot Stepped old new = IsFetched page slot old new
+FetchRow page slot Failed old new = IsStopped old new × (new.store.pending ≡ old.store.pending)
+FetchRow page slot Off old new = IsStopped old new × (new.store.pending ≡ old.store.pending)
+FetchRow page slot Ready old new = ⊥
+FetchRow page slot (Pinned other) old new = ⊥
+
+-- a step of the flush of a slot
+abbrev pub FlushRow : ℕ → Work → Parts → Parts → Type 0
+FlushRow slot Stepped old new = IsProgrammed slot old new ⊎ IsCollected old new
+FlushRow slot Failed old new = IsStopped old new × (new.store.pending ≡ None)
+FlushRow slot Off old new = IsStopped old new × (new.store.pending ≡ None)
+FlushRow slot Ready old new = ⊥
+FlushRow slot (Pinned other) old new = ⊥
+
+-- no way of the page's set may give way
+abbrev pub NoWayRow : ℕ → Work → Parts → Parts → Type 0
+NoWayRow page Stepped old new =
+    HasUnpinned page old × IsDrained (lines_of old) (lines_of new)
+    × SameFrames old.cache new.cache × (new.store ≡ old.store)
+NoWayRow page (Pinned named) old new = IsPinnedSet page named old × (new ≡ old)
+NoWayRow page Ready old new = ⊥
+NoWayRow page Failed old new = ⊥
+NoWayRow page Off old new = ⊥
+
+-- a step for a page that isn't resident: the first row that applies. A chosen way that is clean gives way, and one that is
+-- dirty is flushed
+pub data IsStep (page : ℕ) (old : Parts) (result : Work) (new : Parts) : Type 0 where
+  seals : is_some old.store.pending ≡ true → SealRow result old new → IsStep page old result new
+  fills : old.store.pending ≡ None → (slot : ℕ) → IsEmptyWay old.cache page slot
+      → FetchRow page slot result old new
+      → IsStep page old result new
+  no_way : old.store.pending ≡ None → is_full_set old.cache page ≡ true → chosen_way old page ≡ None
+      → NoWayRow page result old new → IsStep page old result new
+  replaces : old.store.pending ≡ None → is_full_set old.cache page ≡ true → (slot : ℕ) (mid : Parts)
+      → IsRaised page slot old mid → (slot_at old.cache.slots slot).dirty ≡ false
+      → FetchRow page slot result mid new
+      → IsStep page old result new
+  flushes : old.store.pending ≡ None → is_full_set old.cache page ≡ true → (slot : ℕ) (mid : Parts)
+      → IsRaised page slot old mid → (slot_at old.cache.slots slot).dirty ≡ true
+      → FlushRow slot result mid new
+      → IsStep page old result new
+
+-- a step of the collector
+abbrev pub CollectRow : Work → Parts → Parts → Type 0
+CollectRow Stepped old new = IsStopped old new × (new.store.pending ≡ None)
+CollectRow Failed old new = IsStopped old new × (new.store.pending ≡ None)
+CollectRow Off old new = IsStopped old new × (new.store.pending ≡ None)
+CollectRow Ready old new = ⊥
+CollectRow (Pinned other) old new = ⊥
+
+-- a turn of the collector: a flush that waits is sealed, or a collection that runs or is due makes a step
+pub data IsCollectTurn (old : Parts) (result : Work) (new : Parts) : Type 0 where
+  turn_off : old.store.on ≡ false → result ≡ Off → new ≡ old → IsCollectTurn old result new
+  turn_seals : is_some old.store.pending ≡ true → SealRow result old new
+      → IsCollectTurn old result new
+  turn_collects : old.store.pending ≡ None → old.store.wants ≡ true
+      → CollectRow result old new → IsCollectTurn old result new
+  turn_idle : old.store.pending ≡ None → old.store.wants ≡ false → result ≡ Ready → new ≡ old
+      → IsCollectTurn old result new

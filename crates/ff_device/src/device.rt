@@ -3,10 +3,16 @@ ghost use Rattle.std.specs.Prelude.{◌≡◌, false, MatchResult};
 ghost use Rattle.ff_device.specs.DeviceFields.{parts_of};
 ghost use Rattle.ff_device.specs.Parts.{CanBegin, IsDeviceSound};
 
+mod arriving;
+mod choosing;
+mod collecting;
 mod draining;
+mod fetching;
+mod flushing;
 mod lines;
 mod posting;
 mod slots;
+mod working;
 
 use crate::Store;
 use ff_base::PageBuf;
@@ -32,7 +38,8 @@ impl<S: Store> Model for Device<S> {
 
     ghost view = { λ d. record { store = d.store; cache = d.cache; window = d.window } };
 
-    ghost invariant = { λ d. IsDeviceSound (record { store = S.seen d.store; cache = d.cache; window = d.window }) };
+    ghost invariant = { λ d. IsDeviceSound
+        (record { store = S.seen d.store; cache = d.cache; window = d.window }) };
 }
 
 /// A device's parts, handed out or back.
@@ -46,7 +53,12 @@ pub struct DeviceParts<S> {
 impl<S: Store> Device<S> {
     /// A device of parts of one geometry, with nothing in flight. For want of memory the parts are handed back.
     #[tactic(auto, using(crate::proofs::Beginning::begins))]
-    pub fn new(alloc: Global, store: S, cache: Cache, window: Window) -> Result<Device<S>, DeviceParts<S>>
+    pub fn new(
+        alloc: Global,
+        store: S,
+        cache: Cache,
+        window: Window,
+    ) -> Result<Device<S>, DeviceParts<S>>
         requires { CanBegin (record { store = S.seen store; cache = cache; window = window }) }
         ensures { MatchResult result
             (λ device. device ≡ record { store = store; cache = cache; window = window })
@@ -78,5 +90,31 @@ impl<S: Store> Device<S> {
         ensures { result.now ≡ self.now.store }
     {
         &self.store
+    }
+
+    /// The store, the cache and the window.
+    pub fn into_parts(self) -> DeviceParts<S>
+        ensures { result ≡ record { store = self.store; cache = self.cache; window = self.window } }
+    {
+        let Device {
+            store,
+            cache,
+            window,
+            page: _,
+        } = self;
+        DeviceParts {
+            store,
+            cache,
+            window,
+        }
+    }
+
+    /// Turns the power off. Nothing else changes.
+    pub fn power_off(&mut self)
+        ensures store { S.seen self.new.store ≡ record (S.seen self.old.store) { on = false } }
+        ensures cache { self.new.cache ≡ self.old.cache }
+        ensures window { self.new.window ≡ self.old.window }
+    {
+        self.store.power_off();
     }
 }

@@ -3,8 +3,6 @@
 
 mod device;
 mod store;
-#[cfg(test)]
-mod tests;
 
 pub use device::{Device, DeviceParts};
 pub use store::{FlushStep, Store};

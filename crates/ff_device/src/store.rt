@@ -1,8 +1,8 @@
 // What the device asks of a store of pages.
 ghost use Rattle.std.specs.Prelude.{◌≡◌, ◌<◌, ◌≤◌, ◌^◌, OnOk, IsSome, None, false, length, option_map, Err};
-ghost use Rattle.ff_flash.specs.FlashState.{stop_of};
+ghost use Rattle.ff_flash.specs.Injected.{stop_of};
 ghost use Rattle.ff_lines.specs.PageSets.{count_below, with_page};
-ghost use Rattle.ff_device.specs.Store.{is_mapped, page_bytes, Flushes, IsStore, Powers, SameStore, Seals, StoreView};
+ghost use Rattle.ff_device.specs.Store.{is_mapped, page_bytes, Flushes, IsStoreViewSound, Powers, SameStore, SealsFlush, StoreView};
 
 use ff_base::{PageBuf, PageNo};
 use ff_flash::FlashStop;
@@ -26,7 +26,7 @@ pub trait Store {
 
     /// What every store keeps. For the prover alone.
     fn known(&self)
-        ensures { IsStore (seen self.now) };
+        ensures { IsStoreViewSound (seen self.now) };
 
     fn is_on(&self) -> bool
         ensures { result ≡ (seen self.now).on };
@@ -37,7 +37,8 @@ pub trait Store {
 
     /// The page of the flush that is to be sealed.
     fn pending(&self) -> Option<PageNo>
-        ensures { option_map (λ page. page.0) result ≡ option_map (λ flush. flush.page) (seen self.now).pending };
+        ensures { option_map (λ page. page.0) result ≡ option_map
+            (λ flush. flush.page) (seen self.now).pending };
 
     /// Reads a page. One that isn't mapped is zeros.
     fn fetch(&mut self, page: PageNo, into: &mut PageBuf) -> Result<(), FlashStop>
@@ -66,12 +67,13 @@ pub trait Store {
     fn seal_step(&mut self) -> Result<FlushStep, FlashStop>
         requires pending { IsSome (seen self.old).pending }
         requires used { (seen self.old).used < 2 ^ 63 }
-        ensures step { Seals result (seen self.old) (seen self.new) }
+        ensures step { SealsFlush result (seen self.old) (seen self.new) }
         ensures powers { Powers (stop_of result) (seen self.old) (seen self.new) }
         ensures same { SameStore (seen self.old) (seen self.new) };
 
     /// Whether a collection runs or is due.
-    fn wants_collect(&self) -> bool;
+    fn wants_collect(&self) -> bool
+        ensures { result ≡ (seen self.now).wants };
 
     /// Makes one step of the collector, while no flush is to be sealed.
     fn collect_step(&mut self) -> Result<(), FlashStop>

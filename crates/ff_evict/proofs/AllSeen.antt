@@ -1,14 +1,9 @@
 -- A pass over as many frames as there are has seen every one.
-use Rattle.std.proofs.Common.{◌≡◌, ℕ, ◌+◌, ◌-◌, ◌<◌, ◌≤◌, Bool, true, List, length, Option, Some, None, inl, inr, arith, ap, ◌∙◌, sym}
-use Rattle.std.specs.Prelude.{IsSome, is_some, nat_le}
-use Rattle.std.proofs.lemmas.Bool.{cases_lt}
-use Rattle.std.proofs.lemmas.List.{get_or_past}
+use Rattle.std.proofs.Common.{ℕ, ◌<◌, Bool, List, length, Option, Some, arith}
 use Rattle.ff_evict.specs.Best.{IsBestOfFirst, IsSeen}
-use Rattle.ff_evict.specs.Choice.{IsChosenFrame, IsNoneToRetreat, MayRetreat, steps_after}
+use Rattle.ff_evict.specs.Choice.{IsChosenFrame, MayRetreat, steps_after}
 use Rattle.ff_evict.specs.Evictor.{IsHandInside}
 use Rattle.ff_evict.specs.declared.evictor.Best.{Best}
-use Rattle.ff_frames.specs.Frame.{free_frame}
-use Rattle.ff_frames.specs.Frames.{frame_at}
 use Rattle.ff_frames.specs.declared.frame.Frame.{Frame}
 use Rattle.ff_plb.specs.declared.slot.Slot.{Slot}
 

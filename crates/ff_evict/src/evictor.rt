@@ -74,7 +74,14 @@ impl<E: Pick> Evictor<E> {
     }
 
     // The better of the best so far and the frame after those seen. Of equals it is the earlier one.
-    fn better(&self, frames: &Frames, busy: &Plb, frame: u32, seen: u32, best: Option<Best>) -> Option<Best>
+    fn better(
+        &self,
+        frames: &Frames,
+        busy: &Plb,
+        frame: u32,
+        seen: u32,
+        best: Option<Best>,
+    ) -> Option<Best>
         requires hand { self.now.hand < length frames.now }
         requires frame { frame < length frames.now }
         requires seen { steps_after (length frames.now) self.now.hand frame ≡ seen }

@@ -26,14 +26,11 @@ impl Pick for ByDirty {
     }
 }
 
-// Each frame's referred flag and number of dirty lines, or none where it is free. Then the page in flight, the hand, and
-// the choice.
-struct Row {
-    frames: [Option<(bool, u8)>; 4],
-    busy: Option<u32>,
-    hand: u32,
-    choice: Option<u32>,
-}
+// Each frame's referred flag and number of dirty lines, or none where it is free.
+type States = [Option<(bool, u8)>; 4];
+
+// The frames, the page in flight, the hand, and the choice.
+struct Row(States, Option<u32>, u32, Option<u32>);
 
 const CLEAN: Option<(bool, u8)> = Some((false, 0));
 
@@ -45,27 +42,43 @@ const REFERRED: Option<(bool, u8)> = Some((true, 0));
 
 const REFERRED_DIRTY: Option<(bool, u8)> = Some((true, 1));
 
-const fn row(frames: [Option<(bool, u8)>; 4], busy: Option<u32>, hand: u32, choice: Option<u32>) -> Row {
-    Row {
-        frames,
-        busy,
-        hand,
-        choice,
-    }
-}
-
 const ROWS: [Row; 11] = [
-    row([CLEAN, CLEAN, CLEAN, CLEAN], None, 0, Some(0)),
-    row([CLEAN, CLEAN, CLEAN, CLEAN], None, 2, Some(2)),
-    row([ONE_DIRTY, CLEAN, CLEAN, ONE_DIRTY], None, 3, Some(1)),
-    row([ONE_DIRTY, ONE_DIRTY, TWO_DIRTY, TWO_DIRTY], None, 2, Some(0)),
-    row([REFERRED, TWO_DIRTY, ONE_DIRTY, ONE_DIRTY], None, 0, Some(2)),
-    row([REFERRED, TWO_DIRTY, ONE_DIRTY, ONE_DIRTY], Some(2), 0, Some(3)),
-    row([REFERRED, TWO_DIRTY, ONE_DIRTY, ONE_DIRTY], Some(9), 3, Some(3)),
-    row([REFERRED_DIRTY, REFERRED, REFERRED_DIRTY, REFERRED_DIRTY], None, 2, Some(1)),
-    row([None, None, REFERRED_DIRTY, None], None, 3, Some(2)),
-    row([None, None, CLEAN, None], Some(2), 0, None),
-    row([None, None, None, None], None, 1, None),
+    Row([CLEAN, CLEAN, CLEAN, CLEAN], None, 0, Some(0)),
+    Row([CLEAN, CLEAN, CLEAN, CLEAN], None, 2, Some(2)),
+    Row([ONE_DIRTY, CLEAN, CLEAN, ONE_DIRTY], None, 3, Some(1)),
+    Row(
+        [ONE_DIRTY, ONE_DIRTY, TWO_DIRTY, TWO_DIRTY],
+        None,
+        2,
+        Some(0),
+    ),
+    Row(
+        [REFERRED, TWO_DIRTY, ONE_DIRTY, ONE_DIRTY],
+        None,
+        0,
+        Some(2),
+    ),
+    Row(
+        [REFERRED, TWO_DIRTY, ONE_DIRTY, ONE_DIRTY],
+        Some(2),
+        0,
+        Some(3),
+    ),
+    Row(
+        [REFERRED, TWO_DIRTY, ONE_DIRTY, ONE_DIRTY],
+        Some(9),
+        3,
+        Some(3),
+    ),
+    Row(
+        [REFERRED_DIRTY, REFERRED, REFERRED_DIRTY, REFERRED_DIRTY],
+        None,
+        2,
+        Some(1),
+    ),
+    Row([None, None, REFERRED_DIRTY, None], None, 3, Some(2)),
+    Row([None, None, CLEAN, None], Some(2), 0, None),
+    Row([None, None, None, None], None, 1, None),
 ];
 
 // Stores to so many of the frame's lines.
@@ -111,15 +124,15 @@ fn take_all(frames: &mut Frames)
     let _ = frames.take(PageNo(3));
 }
 
-fn frames_of(alloc: Global, row: &Row) -> Result<Frames, Fail>
+fn frames_of(alloc: Global, states: &States) -> Result<Frames, Fail>
     ensures { IfOk result (λ frames. length frames ≡ 4) }
 {
     let mut frames = Frames::new(alloc, 4)?;
     take_all(&mut frames);
-    prepare(&mut frames, 0, row.frames[0]);
-    prepare(&mut frames, 1, row.frames[1]);
-    prepare(&mut frames, 2, row.frames[2]);
-    prepare(&mut frames, 3, row.frames[3]);
+    prepare(&mut frames, 0, states[0]);
+    prepare(&mut frames, 1, states[1]);
+    prepare(&mut frames, 2, states[2]);
+    prepare(&mut frames, 3, states[3]);
     Ok(frames)
 }
 
@@ -144,17 +157,26 @@ fn evictor_at(frames: &Frames, hand: u32) -> Evictor<ByDirty>
     evictor
 }
 
-fn choice_of(alloc: Global, row: &Row) -> Result<Option<u32>, Fail> {
-    let frames = frames_of(alloc, row)?;
-    let buffer = buffer_of(alloc, row.busy)?;
-    let evictor = evictor_at(&frames, row.hand.min(4));
+fn choice_of(
+    alloc: Global,
+    states: &States,
+    busy: Option<u32>,
+    hand: u32,
+) -> Result<Option<u32>, Fail> {
+    let frames = frames_of(alloc, states)?;
+    let buffer = buffer_of(alloc, busy)?;
+    let evictor = evictor_at(&frames, hand.min(4));
     Ok(evictor.choose(&frames, &buffer))
 }
 
 #[test]
 fn the_first_least_score_from_the_hand_on(rt: HostRuntime) -> Result<(), Fail> {
-    for (at, row) in ROWS.iter().enumerate() {
-        assert_eq!(rt; choice_of(rt.alloc(), row)?, row.choice, "row {at}");
+    for (at, Row(states, busy, hand, choice)) in ROWS.iter().enumerate() {
+        assert_eq!(rt;
+            choice_of(rt.alloc(), states, *busy, *hand)?,
+            *choice,
+            "row {at}"
+        );
     }
     Ok(())
 }

@@ -1,12 +1,10 @@
 -- How many frames are free, before one is given back.
-use Rattle.std.specs.Prelude.{replicate, is_none, is_some}
-use Rattle.std.proofs.Common.{◌≡◌, ◌≢◌, ℕ, ◌+◌, ◌*◌, ◌/◌, ◌<◌, ◌≤◌, ◌^◌, Bool, true, false, cond, List, length, get_or, set, count_by, Option, None, Some, refl, ap, arith, length-set}
+use Rattle.std.specs.Prelude.{is_none}
+use Rattle.std.proofs.Common.{◌≡◌, ◌≢◌, ℕ, ◌+◌, ◌<◌, ◌≤◌, cond, List, length, set, Option, None, Some, refl, arith, length-set}
 use Rattle.std.proofs.lemmas.List.Sums.{count_by-le-length, sum_by-set}
 use Rattle.ff_base.specs.declared.numbers.PageNo.{PageNo}
-use Rattle.ff_lines.specs.LineMask.{no_lines}
 use Rattle.ff_frames.specs.Frame.{free_frame, given_frame}
 use Rattle.ff_frames.specs.Frames.{frame_at, free_count}
-use Rattle.ff_frames.specs.FramesFields.{IsIndexed}
 use Rattle.ff_frames.specs.declared.frame.Frame.{Frame}
 
 in_use : (page : Option PageNo) → page ≢ None → (let one : ℕ = 1 in let nothing : ℕ = 0 in cond (is_none page) one nothing ≡ nothing)

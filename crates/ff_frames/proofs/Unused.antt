@@ -1,5 +1,5 @@
 -- The least frame that isn't in use, mask by mask.
-use Rattle.std.proofs.Common.{◌≡◌, ℕ, ◌+◌, ◌*◌, ◌/◌, ◌%◌, ◌<◌, true, false, List, get_or, inl, inr, arith}
+use Rattle.std.proofs.Common.{◌≡◌, ℕ, ◌+◌, ◌*◌, ◌/◌, ◌%◌, ◌<◌, true, List, get_or, inl, inr, arith}
 use Rattle.std.proofs.lemmas.Bool.{cases_lt}
 use Rattle.ff_lines.specs.LineMask.{HasEveryLine, IsLeastClear, no_lines}
 use Rattle.ff_lines.specs.declared.line_mask.LineMask.{LineMask}

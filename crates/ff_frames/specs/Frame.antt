@@ -1,5 +1,5 @@
 -- One page frame, and what a call makes of it.
-use Rattle.std.specs.Prelude.{ℕ, Bool, false, List, Option, Some, None}
+use Rattle.std.specs.Prelude.{ℕ, Bool, false, List, Some, None}
 use Rattle.ff_base.specs.Page.{blank_page, with_line}
 use Rattle.ff_base.specs.declared.numbers.PageNo.{PageNo}
 use Rattle.ff_lines.specs.LineMask.{mask_with, mask_without, no_lines}

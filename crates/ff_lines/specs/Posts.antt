@@ -10,7 +10,8 @@ is_to page line post = (post.page.0 == page) && (post.line == line)
 
 -- a line after a post
 abbrev pub laid_on : ℕ → ℕ → Post → List ℕ → List ℕ
-laid_on page line post bytes = if is_to page line post then overlaid bytes post.from post.bytes else bytes
+laid_on page line post bytes =
+    if is_to page line post then overlaid bytes post.from post.bytes else bytes
 
 -- a line after posts, in their order
 abbrev pub laid : ℕ → ℕ → List Post → List ℕ → List ℕ

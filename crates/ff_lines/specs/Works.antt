@@ -26,9 +26,11 @@ pub record IsOff (page : ℕ) (old new : DeviceState) : Type 0 where
 -- what each answer of a step for a page says
 abbrev pub Works : ℕ → Work → DeviceState → DeviceState → Type 0
 Works page Ready old new = (old.resident page ≡ true) × WentWell old new
-Works page Stepped old new = (old.resident page ≡ false) × (new.steps page < old.steps page) × WentWell old new
+Works page Stepped old new =
+    (old.resident page ≡ false) × (new.steps page < old.steps page) × WentWell old new
 Works page (Pinned other) old new =
-    (old.resident page ≡ false) × (old.resident other.0 ≡ true) × (old.pinned other.0 ≡ true) × WentWell old new
+    (old.resident page ≡ false) × (old.resident other.0 ≡ true) × (old.pinned other.0 ≡ true)
+    × WentWell old new
 Works page Failed old new = (old.resident page ≡ false) × HasFailed old new
 Works page Off old new = IsOff page old new
 

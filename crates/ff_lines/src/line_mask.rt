@@ -12,7 +12,8 @@ impl LineMask {
     pub fn set(&mut self, line: u8)
         requires { line < 64 }
         ensures mask { self.new ≡ mask_with self.old line }
-        ensures lines { (q : ℕ) → q < 64 → has_line self.new q ≡ ((q == line) || has_line self.old q) }
+        ensures lines { (q : ℕ) → q < 64 → has_line self.new q
+            ≡ ((q == line) || has_line self.old q) }
     {
         self.0 |= 1 << line;
     }
@@ -22,7 +23,8 @@ impl LineMask {
     pub fn clear(&mut self, line: u8)
         requires { line < 64 }
         ensures mask { self.new ≡ mask_without self.old line }
-        ensures lines { (q : ℕ) → q < 64 → has_line self.new q ≡ (not (q == line) && has_line self.old q) }
+        ensures lines { (q : ℕ) → q < 64 → has_line self.new q
+            ≡ (not (q == line) && has_line self.old q) }
     {
         self.0 &= !(1 << line);
     }

@@ -84,10 +84,10 @@ like-drained m d d' is = record {
   slots = refl;
   capacity = refl;
   device = λ page. record {
-      lines = λ line. line_at-drained d d' page line is;
-      idle = λ idle. waits-all_drained d d' page is.lines;
-      resident = λ pinned resident. is.residence.resident page ∙ resident;
-    };
+    lines = λ line. line_at-drained d d' page line is;
+    idle = λ idle. waits-all_drained d d' page is.lines;
+    resident = λ pinned resident. is.residence.resident page ∙ resident;
+  };
   pinned = is.pinned;
   written = is.written;
   room = is.residence.sizes.room;
@@ -159,13 +159,13 @@ like-worked m d d' is = record {
   slots = refl;
   capacity = refl;
   device = λ page. record {
-      lines = λ line. line_at-worked d d' page line is;
-      idle = λ idle. elim is.lines [
-        | inl same ↦ ap (λ posts. waits_in posts page) same.posts ∙ idle
-        | inr drained ↦ waits-all_drained d d' page drained
-      ];
-      resident = λ pinned resident. is.stay page (inl pinned) resident;
-    };
+    lines = λ line. line_at-worked d d' page line is;
+    idle = λ idle. elim is.lines [
+      | inl same ↦ ap (λ posts. waits_in posts page) same.posts ∙ idle
+      | inr drained ↦ waits-all_drained d d' page drained
+    ];
+    resident = λ pinned resident. is.stay page (inl pinned) resident;
+  };
   pinned = is.pinned;
   written = is.written;
   room = is.sizes.room;

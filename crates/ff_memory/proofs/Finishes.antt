@@ -79,9 +79,9 @@ finished_coming-keeps m d k s d' e way all is =
         device = λ q other. pinned-same p false d d' q is;
         pins = λ q other. pinned-other p false d d' q is other;
         site = rw (home, gone) (
-            fl.holds,
-            λ j low clean. coming.clean j low clean (all j low) ∙ sym (line_at-pinned p false d d' p j is),
-          );
+          fl.holds,
+          λ j low clean. coming.clean j low clean (all j low) ∙ sym (line_at-pinned p false d d' p j is),
+        );
         used = λ g holds. rw (home, gone) (rw before at (e.located.used g p holds));
         pin = rw gone (pinned-here p false d d' is);
         dirty_born = λ j low holds dirty. e.located.accounts.dirty_born s.frame p j low holds dirty;
@@ -128,12 +128,12 @@ finished_leaving-keeps m d k s d' e way all is =
         pins = λ q other. pinned-other p false d d' q is other;
         site = rw (home, gone) tt;
         used = λ g holds. elim (cases_eq g s.frame) [
-            | inl same ↦ absurd (free p (ap (λ (i : ℕ). (frame_at next.frames i).page) (sym same) ∙ holds))
-            | inr other ↦
-                let held = ap (λ (f : Frame). f.page) (sym (others g other)) ∙ holds in
-                let there : Some s.frame ≡ Some g = rw before at (e.located.used g p held) in
-                absurd (other (sym (same_Some s.frame g there)))
-          ];
+          | inl same ↦ absurd (free p (ap (λ (i : ℕ). (frame_at next.frames i).page) (sym same) ∙ holds))
+          | inr other ↦
+              let held = ap (λ (f : Frame). f.page) (sym (others g other)) ∙ holds in
+              let there : Some s.frame ≡ Some g = rw before at (e.located.used g p held) in
+              absurd (other (sym (same_Some s.frame g there)))
+        ];
         pin = rw gone (pinned-here p false d d' is);
         dirty_born = λ j low holds dirty. absurd (free p holds);
         written_born = λ q written. e.located.accounts.written_born q (sym (is.written q) ∙ written);

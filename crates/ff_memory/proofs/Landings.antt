@@ -78,9 +78,9 @@ landed_in_frame-keeps m d k s flight m' d' e way flying within clear is =
       home_is = coming.home_is;
       idle = coming.idle;
       clean = λ j low clean copied. elim (cases_eq j line) [
-          | inl same ↦ ap (λ (i : ℕ). line_of new.bytes i) same ∙ put ∙ here ∙ ap (λ (i : ℕ). line_at d p i) (sym same)
-          | inr other ↦ kept j other ∙ coming.clean j low clean (sym (mask-other s.bits line j within other) ∙ copied)
-        ];
+        | inl same ↦ ap (λ (i : ℕ). line_of new.bytes i) same ∙ put ∙ here ∙ ap (λ (i : ℕ). line_at d p i) (sym same)
+        | inr other ↦ kept j other ∙ coming.clean j low clean (sym (mask-other s.bits line j within other) ∙ copied)
+      ];
       copied = λ j low dirty. mask-more s.bits line j within (coming.copied j low dirty);
       flies = tt;
     } in
@@ -112,14 +112,14 @@ landed_in_frame-keeps m d k s flight m' d' e way flying within clear is =
       lines = λ j low.
           place-after m d k s t next d j step
           ∙ rw way (
-            coming-line (has_line s.bits j) (has_line t.bits j) m.frames next.frames d d p j s.frame
-            (mask-more s.bits line j within)
-            (λ copied. now_line j ∙ kept j (λ same. let a = ap (λ (i : ℕ). has_line s.bits i) same in cc))
-            (λ before after. elim (mask-cases s.bits line j within after) [
-              | inl same ↦ now_line j ∙ ap (λ (i : ℕ). line_of new.bytes i) same ∙ put ∙ here ∙ ap (λ (i : ℕ). line_at d p i) (sym same)
-              | inr there ↦ absurd (let a = there in cc)
-            ])
-            refl)
+          coming-line (has_line s.bits j) (has_line t.bits j) m.frames next.frames d d p j s.frame
+          (mask-more s.bits line j within)
+          (λ copied. now_line j ∙ kept j (λ same. let a = ap (λ (i : ℕ). has_line s.bits i) same in cc))
+          (λ before after. elim (mask-cases s.bits line j within after) [
+            | inl same ↦ now_line j ∙ ap (λ (i : ℕ). line_of new.bytes i) same ∙ put ∙ here ∙ ap (λ (i : ℕ). line_at d p i) (sym same)
+            | inr there ↦ absurd (let a = there in cc)
+          ])
+          refl)
           ∙ sym (place-before m d k s j e);
     }
 
@@ -217,9 +217,9 @@ landed_on_device-keeps m d k s flight m' d' e way flying is =
       by_way = rw now by_way;
       dirty_born = λ j low dirty. born;
       written_born = λ q written. elim (or_cases (q == p) (d.written q) (sym (is.device.written q) ∙ written)) [
-          | inl same ↦ ap (λ (i : ℕ). is_born m.table i) (eqb-true q p same) ∙ born
-          | inr before ↦ e.located.accounts.written_born q before
-        ];
+        | inl same ↦ ap (λ (i : ℕ). is_born m.table i) (eqb-true q p same) ∙ born
+        | inr before ↦ e.located.accounts.written_born q before
+      ];
       born_more = λ q b. b;
       few_born = e.located.accounts.few_born;
       room = is.device.residence.sizes.room ∙ e.located.accounts.room;
@@ -234,12 +234,12 @@ landed_on_device-keeps m d k s flight m' d' e way flying is =
       lines = λ j low.
           place-after m d k s t next d' j step
           ∙ rw way (
-            leaving-line (has_line s.bits j) (has_line t.bits j) m.frames next.frames d d' p j s.frame
-            (mask-more s.bits line j within) (ap (λ (f : Frame). line_of f.bytes j) now)
-            (λ before after. elim (mask-cases s.bits line j within after) [
-              | inl same ↦ ap (λ (i : ℕ). line_at d' p i) same ∙ put ∙ ap (λ (i : ℕ). line_of frame.bytes i) (sym same)
-              | inr there ↦ absurd (let a = there in cc)
-            ])
-            (λ copied. posted-line_other post d d' p j is.device (λ page same. let a = ap (λ (i : ℕ). has_line s.bits i) same in let b = flight_is.1 in cc)))
+          leaving-line (has_line s.bits j) (has_line t.bits j) m.frames next.frames d d' p j s.frame
+          (mask-more s.bits line j within) (ap (λ (f : Frame). line_of f.bytes j) now)
+          (λ before after. elim (mask-cases s.bits line j within after) [
+            | inl same ↦ ap (λ (i : ℕ). line_at d' p i) same ∙ put ∙ ap (λ (i : ℕ). line_of frame.bytes i) (sym same)
+            | inr there ↦ absurd (let a = there in cc)
+          ])
+          (λ copied. posted-line_other post d d' p j is.device (λ page same. let a = ap (λ (i : ℕ). has_line s.bits i) same in let b = flight_is.1 in cc)))
           ∙ sym (place-before m d k s j e);
     }

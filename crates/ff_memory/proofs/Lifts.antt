@@ -64,7 +64,7 @@ lifts-like Leaving m d d' is = rw is (like-none m d)
 lift-flies : (way : Way) (m : MemoryView) (d d' : DeviceState) (s : Slot) (home : Home) (line : ℕ) → line < 64
     → has_line s.bits line ≡ false → IsLike m d m d' → IsFlyingBy way (frame_at m.frames s.frame) d s.page.0 home s
     → IsFlyingBy way (frame_at m.frames s.frame) d' s.page.0 home
-      (after_lift (record { line = line; bytes = source_line way m d s line }) s)
+    (after_lift (record { line = line; bytes = source_line way m d s line }) s)
 lift-flies Coming m d d' s home line within clear like is =
     let frame : Frame = frame_at m.frames s.frame in
     let now : IsComing frame d' s.page.0 home s.bits s.flight =
@@ -92,7 +92,7 @@ lifted-keeps m d k s m' d' e is =
       lines = λ line within.
           place-after m d k s (after_lift flight s) (slot_set k (Some (after_lift flight s)) m) d' line step
           ∙ line-like m.frames m.frames d d' s.page.0 line (frame_in_flight s.way s.frame (has_line s.bits line))
-            (λ g. alike-same (frame_at m.frames g) (frame_at m.frames g) refl) (like.device s.page.0)
+          (λ g. alike-same (frame_at m.frames g) (frame_at m.frames g) refl) (like.device s.page.0)
           ∙ sym (place-before m d k s line e);
     }
 
@@ -165,8 +165,8 @@ dropped-keeps m d k s flight m' d' e way flying within set is =
       lines = λ line low.
           place-after m d k s t (slot_set k (Some t) m) d line step
           ∙ rw way (
-            coming-line (has_line s.bits line) (has_line t.bits line) m.frames m.frames d d p line s.frame
-            (mask-more s.bits flight.line line within) (λ b. refl)
-            (λ b b'. absurd (let a = mask-same s.bits flight.line line within set b' in cc)) refl)
+          coming-line (has_line s.bits line) (has_line t.bits line) m.frames m.frames d d p line s.frame
+          (mask-more s.bits flight.line line within) (λ b. refl)
+          (λ b b'. absurd (let a = mask-same s.bits flight.line line within set b' in cc)) refl)
           ∙ sym (place-before m d k s line e);
     }

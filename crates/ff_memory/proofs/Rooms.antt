@@ -72,7 +72,7 @@ few-born m d page sound located within allowed =
           ]
     ]
 
-with-born : (m : MemoryView) (d : DeviceState) (page q : ℕ) → IsTableSound m.table → IsLocated m d
+pub with-born : (m : MemoryView) (d : DeviceState) (page q : ℕ) → IsTableSound m.table → IsLocated m d
     → page < length m.table.homes → with_page page d.written q ≡ true → is_born (with_born page m.table) q ≡ true
 with-born m d page q sound located within is = elim (or_cases (q == page) (d.written q) is) [
   | inl same ↦

@@ -65,11 +65,13 @@ pub record IsRetreated (page : ℕ) (m : MemoryView) (d : DeviceState) (m' : Mem
       m
   pub device : IsPinned page true d d'
 
--- the slot has a coming page's entry
+-- the slot has a coming page's entry, whose page and frame there are
 pub record IsComingSlot (m : MemoryView) (slot : ℕ) : Type 0 where
   pub entry : Slot
   pub has : HasEntry m.slots slot entry
   pub way : entry.way ≡ Coming
+  pub page : entry.page.0 < length m.table.homes
+  pub frame : entry.frame < length m.frames
 
 -- the memory after a page with this entry turned back: it leaves its frame, which is its home
 abbrev pub turned_by : ℕ → Option Slot → MemoryView → MemoryView

@@ -1,9 +1,9 @@
 -- What a store answers and does.
-use Rattle.std.specs.Prelude.{ℕ, ◌≡◌, ◌≢◌, ◌<◌, ◌==◌, ◌&&◌, Bool, true, false, not, List, length, Option, Some, None, if◌then◌else◌}
+use Rattle.std.specs.Prelude.{ℕ, ◌≡◌, ◌≢◌, ◌+◌, ◌<◌, ◌≤◌, ◌==◌, ◌&&◌, Bool, true, false, not, List, length, Option, Some, None, if◌then◌else◌}
 use Rattle.ff_frames.specs.Frame.{filled_frame, referred_frame, written_frame}
 use Rattle.ff_frames.specs.Frames.{frame_at, with_frame}
 use Rattle.ff_frames.specs.declared.frame.Frame.{Frame}
-use Rattle.ff_lines.specs.DeviceState.{DeviceState, IsDrained, IsPosted, line_at}
+use Rattle.ff_lines.specs.DeviceState.{DeviceState, IsDevice, IsDrained, IsPosted, line_at}
 use Rattle.ff_lines.specs.LineMask.{has_line}
 use Rattle.ff_lines.specs.Overlay.{overlaid}
 use Rattle.ff_model.specs.declared.op.Reply.TheVariants.{Done, Full}
@@ -14,7 +14,8 @@ use Rattle.ff_plb.specs.declared.slot.Way.{Way}
 use Rattle.ff_plb.specs.declared.slot.Way.TheVariants.{Coming, Leaving}
 use Rattle.ff_table.specs.Table.{born_count, is_born, with_born}
 use Rattle.ff_memory.specs.Loads.{IsMissed}
-use Rattle.ff_memory.specs.Memory.{MemoryView, born_set, entry_at, numbered}
+use Rattle.ff_memory.specs.Located.{IsLocated}
+use Rattle.ff_memory.specs.Memory.{IsMemorySound, MemoryView, born_set, entry_at, numbered}
 use Rattle.ff_memory.specs.Places.{SamePlaces, place, storing_frame}
 use Rattle.ff_memory.specs.declared.access.Access.{Access}
 use Rattle.ff_memory.specs.declared.access.Access.TheVariants.{Served, Miss}
@@ -23,6 +24,16 @@ use Rattle.ff_memory.specs.declared.access.Side.TheVariants.{Device, Host, Neith
 -- a store to the page is refused: it isn't born, and as many pages as may be are
 abbrev pub is_refused : MemoryView → ℕ → Bool
 is_refused m page = not (is_born m.table page) && (born_count m.table == m.capacity)
+
+-- what a store that isn't refused finds: a line of one of the pages, a piece that fits, and the facts
+pub record IsStoreGiven (page line from : ℕ) (piece : List ℕ) (m : MemoryView) (d : DeviceState) : Type 0 where
+  pub sound : IsMemorySound m
+  pub device : IsDevice d
+  pub located : IsLocated m d
+  pub within : page < length m.table.homes
+  pub low : line < 64
+  pub fits : from + length piece ≤ 64
+  pub allowed : is_refused m page ≡ false
 
 -- whether a store to a line of a page in flight carries the rest of the line: the page is coming, the line isn't copied and
 -- the piece isn't a whole line

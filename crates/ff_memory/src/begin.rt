@@ -1,18 +1,20 @@
 // The beginnings of migrations: promotion, retreat and turning back.
-ghost use Rattle.std.specs.Prelude.{◌≡◌, ◌≢◌, ◌<◌, length};
+ghost use Rattle.std.specs.Prelude.{ℕ, ◌≡◌, ◌≢◌, ◌<◌, Some, length, not};
 ghost use Rattle.ff_lines.specs.DeviceState.{DeviceState, IsDevice};
-ghost use Rattle.ff_frames.specs.Frames.{IsLeastFree, IsNoneFree};
+ghost use Rattle.ff_frames.specs.Frames.{IsLeastFree, IsNoneFree, frame_at};
+ghost use Rattle.ff_lines.specs.LineMask.{has_line, mask_others};
 ghost use Rattle.ff_frames.specs.Frame.{taken_frame};
 ghost use Rattle.ff_memory.specs.Begins.{CanPromote, CanRetreat, IsComingSlot, IsPromoted, IsRetreated, turned_at};
 ghost use Rattle.ff_memory.specs.Located.{IsLocated};
-ghost use Rattle.ff_memory.specs.Memory.{frame_set, home_at};
+ghost use Rattle.ff_memory.specs.Memory.{frame_set, home_at, home_set, slot_set};
 ghost use Rattle.ff_memory.specs.Places.{SamePlaces};
-ghost use Rattle.ff_plb.specs.Plb.{IsLeastEmpty, IsNoneEmpty};
+ghost use Rattle.ff_plb.specs.Plb.{HasEntry, IsLeastEmpty, IsNoneEmpty};
+ghost use Rattle.ff_plb.specs.Slot.{after_turn};
 
 use crate::memory::Memory;
 use ff_base::PageNo;
 use ff_lines::{LineDevice, LineMask};
-use ff_plb::{Plb, Way};
+use ff_plb::{Plb, Slot, Way};
 use ff_table::Home;
 
 // The least empty slot of a buffer that has one.
@@ -37,7 +39,14 @@ impl Memory {
         ensures own { D.own d.new ≡ D.own d.old }
     {
         self.known();
-        let _ = d.resident(page);
+        self.promote(d, page);
+    }
+
+    fn promote<D: LineDevice>(&mut self, d: &mut D, page: PageNo)
+        requires { CanPromote self.old (D.state d.old) page.0 }
+        ensures step { IsPromoted page.0 self.old (D.state d.old) self.new (D.state d.new) }
+        ensures own { D.own d.new ≡ D.own d.old }
+    {
         d.drain_all();
         d.pin(page, true);
         let slot = least_empty(&self.plb);
@@ -67,12 +76,21 @@ impl Memory {
         ensures own { D.own d.new ≡ D.own d.old }
     {
         self.known();
-        let _ = d.resident(page);
+        let frame = self.home_frame(page);
+        let clean = self.frames.dirty(frame).complement();
+        self.retreat(d, page, frame, clean);
+    }
+
+    fn retreat<D: LineDevice>(&mut self, d: &mut D, page: PageNo, frame: u32, clean: LineMask)
+        requires can { CanRetreat self.old (D.state d.old) page.0 }
+        requires frame { home_at self.old page.0 ≡ Home.Host frame }
+        requires clean { clean ≡ mask_others (frame_at self.old.frames frame).dirty }
+        ensures step { IsRetreated page.0 self.old (D.state d.old) self.new (D.state d.new) }
+        ensures own { D.own d.new ≡ D.own d.old }
+    {
         d.pin(page, true);
         let slot = least_empty(&self.plb);
-        let frame = self.home_frame(page);
-        let bits = self.frames.dirty(frame).complement();
-        self.plb.begin(slot, page, frame, Way::Leaving, bits);
+        self.plb.begin(slot, page, frame, Way::Leaving, clean);
     }
 
     // The frame that is a page's home.
@@ -96,7 +114,18 @@ impl Memory {
     {
         self.known();
         let entry = self.plb.entry(slot);
-        self.plb.turn_back(slot, self.frames.dirty(entry.frame));
+        let dirty = self.frames.dirty(entry.frame);
+        self.turn(slot, &entry, dirty);
+    }
+
+    fn turn(&mut self, slot: u32, entry: &Slot, dirty: LineMask)
+        requires has { HasEntry self.old.slots slot entry.now }
+        requires page { entry.now.page.0 < length self.old.table.homes }
+        ensures memory { self.new ≡ home_set entry.now.page.0 (Home.Host entry.now.frame)
+            (slot_set slot (Some (after_turn dirty entry.now)) self.old) }
+        ensures copied { (line : ℕ) → line < 64 → has_line (mask_others dirty) line ≡ not (has_line dirty line) }
+    {
+        self.plb.turn_back(slot, dirty);
         self.table.set_home(entry.page, Home::Host(entry.frame));
     }
 }

@@ -60,10 +60,9 @@ impl Memory {
         ensures place { (d : DeviceState) → SamePlaces self.old d self.new d }
     {
         if from <= to {
-            self.unrefer(from, to);
-        } else {
-            self.unrefer_round(from, to);
+            return self.unrefer(from, to);
         }
+        self.unrefer_round(from, to);
     }
 
     fn unrefer_round(&mut self, from: u32, to: u32)

@@ -7,7 +7,7 @@ ghost use Rattle.ff_memory.specs.Advances.{IsReady};
 ghost use Rattle.ff_memory.specs.Located.{IsLocated};
 ghost use Rattle.ff_memory.specs.Memory.{born_set, entry_at, frame_set, home_at};
 ghost use Rattle.ff_memory.specs.Places.{frame_for, line_in_page, page_of, place_in_line, storing_frame};
-ghost use Rattle.ff_memory.specs.Stores.{DrainsIf, IsFrameStore, IsStore, IsStoreBy, StoresBy, carried_frame, carries, is_refused, stored_frame};
+ghost use Rattle.ff_memory.specs.Stores.{DrainsIf, IsFrameStore, IsStore, IsStoreBy, IsStoreGiven, StoresBy, carried_frame, carries, is_refused, stored_frame};
 
 use crate::access::{Access, Side};
 use crate::memory::Memory;
@@ -43,9 +43,26 @@ impl Memory {
         if self.refuses(at.page) {
             return Access::Served(Reply::Full, Side::Neither);
         }
+        self.store_allowed(d, at, bytes, position)
+    }
+
+    // A store that isn't refused.
+    fn store_allowed<D: LineDevice>(
+        &mut self,
+        d: &mut D,
+        at: Address,
+        piece: &Piece,
+        position: u32,
+    ) -> Access
+        requires { IsStoreGiven at.page.0 at.line at.from piece.now self.old (D.state d.old) }
+        ensures store { IsStoreBy false (storing_frame self.old at.page.0 at.line)
+            ((D.state d.old).resident at.page.0) at.page.0 at.line at.from piece.now position
+            self.old (D.state d.old) result self.new (D.state d.new) }
+        ensures own { D.own d.new ≡ D.own d.old }
+    {
         match self.plb.find(at.page) {
-            None => self.store_at_rest(d, at, bytes, position),
-            Some(slot) => self.store_in_flight(d, slot, at, bytes, position),
+            None => self.store_at_rest(d, at, piece, position),
+            Some(slot) => self.store_in_flight(d, slot, at, piece, position),
         }
     }
 
@@ -92,6 +109,7 @@ impl Memory {
         piece: &Piece,
         position: u32,
     ) -> Access
+        requires in_range { at.page.0 < length self.old.table.homes }
         requires line { at.line < 64 }
         requires span { at.from + length piece.now ≤ 64 }
         requires found { IsFound self.old.slots at.page.0 slot }

@@ -28,7 +28,8 @@ fresh_view pages = record { pages = replicate pages fresh_page; post = None }
 
 -- the page with a post laid over it
 abbrev pub after_post : Post → PlainPage → PlainPage
-after_post post page = record page { bytes = page_overlaid page.bytes post.line post.from post.bytes }
+after_post post page =
+    record page { bytes = page_overlaid page.bytes post.line post.from post.bytes }
 
 -- the page after something was posted to it
 abbrev pub written_page : PlainPage → PlainPage
@@ -41,7 +42,8 @@ pinned_page on page = record page { pinned = on }
 -- the pages after the post, if one waits
 abbrev pub pages_after : Option Post → List PlainPage → List PlainPage
 pages_after None pages = pages
-pages_after (Some post) pages = slice_set pages post.page.0 (after_post post (page_at pages post.page.0))
+pages_after (Some post) pages =
+    slice_set pages post.page.0 (after_post post (page_at pages post.page.0))
 
 -- nothing waits, and what did is laid over its page
 abbrev pub drained_view : PlainView → PlainView
@@ -51,7 +53,8 @@ drained_view plain = record { pages = pages_after plain.post plain.pages; post =
 pub record IsPlain (plain : PlainView) : Type 0 where
   pub sizes : (page : ℕ) → length (page_at plain.pages page).bytes ≡ 4096
   pub posts : All IsPost (option_to_list plain.post)
-  pub waiting : (page : ℕ) → waits_in (option_to_list plain.post) page ≡ true → page < length plain.pages
+  pub waiting : (page : ℕ) → waits_in (option_to_list plain.post) page ≡ true
+      → page < length plain.pages
 
 -- the plain device as one of lines: every page is resident, and all of them may be written
 abbrev pub state_of : PlainView → DeviceState

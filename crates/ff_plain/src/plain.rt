@@ -62,14 +62,16 @@ fn lay(pages: &mut Vec<PlainPage>, post: &Post)
 
 fn mark_written(pages: &mut Vec<PlainPage>, page: PageNo)
     requires { page.0 < length pages.old.items }
-    ensures { pages.new.items ≡ slice_set pages.old.items page.0 (written_page (page_at pages.old.items page.0)) }
+    ensures { pages.new.items
+        ≡ slice_set pages.old.items page.0 (written_page (page_at pages.old.items page.0)) }
 {
     pages[page.0 as usize].written = true;
 }
 
 fn set_pin(pages: &mut Vec<PlainPage>, page: PageNo, on: bool)
     requires { page.0 < length pages.old.items }
-    ensures { pages.new.items ≡ slice_set pages.old.items page.0 (pinned_page on (page_at pages.old.items page.0)) }
+    ensures { pages.new.items
+        ≡ slice_set pages.old.items page.0 (pinned_page on (page_at pages.old.items page.0)) }
 {
     pages[page.0 as usize].pinned = on;
 }

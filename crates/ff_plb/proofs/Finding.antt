@@ -1,7 +1,6 @@
 -- The first slot with an entry of a page.
 use Rattle.std.specs.Prelude.{IsSome}
-use Rattle.std.specs.Option.{option_or}
-use Rattle.std.proofs.Common.{◌≡◌, ℕ, zero, suc, ◌<◌, List, [], ◌∷◌, length, Option, None, Some, refl, ap, ◌∙◌, arith}
+use Rattle.std.proofs.Common.{◌≡◌, ℕ, zero, suc, ◌<◌, List, [], ◌∷◌, length, Option, None, Some, refl, arith}
 use Rattle.std.proofs.lemmas.Option.{none-some}
 use Rattle.ff_plb.specs.Plb.{IsFound, entry_if, entry_of, slot_at}
 use Rattle.ff_plb.specs.declared.slot.Slot.{Slot}

@@ -1,5 +1,5 @@
 -- One entry of the buffer, and what each call makes of it.
-use Rattle.std.specs.Prelude.{ℕ, ◌≡◌, ◌<◌, ◌==◌, Bool, Option, Some, None, if◌then◌else◌}
+use Rattle.std.specs.Prelude.{ℕ, ◌≡◌, ◌<◌, ◌==◌, Option, Some, None, if◌then◌else◌}
 use Rattle.ff_lines.specs.LineMask.{has_line, mask_with, mask_others}
 use Rattle.ff_lines.specs.declared.line_mask.LineMask.{LineMask}
 use Rattle.ff_plb.specs.declared.slot.Flight.{Flight}

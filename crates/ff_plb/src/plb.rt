@@ -1,5 +1,6 @@
 // The slots of the buffer.
-ghost use Rattle.std.specs.Prelude.{◌≡◌, ◌≢◌, ◌<◌, ◌^◌, ◌↔◌, IfOk, IfSome, IsSome, IsTrue, MatchOption, None, Some, option_copied, option_map, replicate, length};
+ghost use Rattle.std.specs.Prelude.{ℕ, ◌≡◌, ◌≢◌, ◌<◌, ◌^◌, ◌↔◌, not, IfOk, IfSome, IsSome, IsTrue, MatchOption, None, Some, option_copied, option_map, replicate, length};
+ghost use Rattle.ff_lines.specs.LineMask.{has_line, mask_others};
 ghost use Rattle.ff_plb.specs.Plb.{ArePagesApart, HasEntry, HasFlight, IsEmpty, IsFound, IsInUse, IsLeastEmpty, IsNoneEmpty, entry_if, entry_of, slot_at, with_slot};
 ghost use Rattle.ff_plb.specs.Slot.{after_landing, after_lift, after_store, after_turn, landing_of};
 
@@ -184,7 +185,8 @@ impl Plb {
     /// A coming page turns back. The lines that aren't dirty count as copied.
     pub fn turn_back(&mut self, slot: u32, dirty: LineMask)
         requires { IsInUse self.old slot }
-        ensures { self.new ≡ with_slot self.old slot (option_map (after_turn dirty) (slot_at self.old slot)) }
+        ensures slots { self.new ≡ with_slot self.old slot (option_map (after_turn dirty) (slot_at self.old slot)) }
+        ensures copied { (line : ℕ) → line < 64 → has_line (mask_others dirty) line ≡ not (has_line dirty line) }
     {
         let entry = self.entry(slot);
         self.put(slot, entry.turned(dirty));

@@ -1,6 +1,6 @@
 // One page in flight.
-ghost use Rattle.std.specs.Prelude.{◌≡◌, ◌<◌, IfSome, None, Some};
-ghost use Rattle.ff_lines.specs.LineMask.{mask_with};
+ghost use Rattle.std.specs.Prelude.{ℕ, ◌≡◌, ◌<◌, IfSome, None, Some, not};
+ghost use Rattle.ff_lines.specs.LineMask.{has_line, mask_others, mask_with};
 ghost use Rattle.ff_plb.specs.Slot.{IsFlying, after_landing, after_lift, after_store, after_turn, landing_of, without_line};
 
 use ff_base::{LINE_BYTES, PageNo};
@@ -119,7 +119,8 @@ impl Slot {
     }
 
     pub(crate) fn turned(self, dirty: LineMask) -> Slot
-        ensures { result ≡ after_turn dirty self }
+        ensures entry { result ≡ after_turn dirty self }
+        ensures copied { (line : ℕ) → line < 64 → has_line (mask_others dirty) line ≡ not (has_line dirty line) }
     {
         Slot {
             way: Way::Leaving,

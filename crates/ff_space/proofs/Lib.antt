@@ -1,3 +1,4 @@
 pub mod Changed
+pub mod Collectable
 pub mod Counted
 pub mod Fewest

@@ -15,7 +15,7 @@ use Rattle.std.specs.Prelude.{
 use Rattle.ff_base.specs.Geometry.{IsAllowed}
 use Rattle.ff_base.specs.declared.geometry.Geometry.{Geometry}
 use Rattle.ff_base.specs.declared.limits.LimitName.TheVariants.{Blocks, PerBlock}
-use Rattle.ff_space.specs.Blocks.{IsBlockSound, emptied, erased_block, filled, is_erased, waiting}
+use Rattle.ff_space.specs.Blocks.{IsBlockSound, emptied, erased_block, filled, is_collectable, is_erased, waiting}
 use Rattle.ff_space.specs.declared.block.BlockEntry.{BlockEntry}
 use Rattle.ff_space.specs.declared.block.BlockState.{BlockState}
 use Rattle.ff_space.specs.declared.block.BlockState.TheVariants.{Full, Held}
@@ -40,6 +40,10 @@ IsInRange table block = block < length table.blocks
 -- how many of the blocks are erased
 abbrev pub erased_count : List BlockEntry → ℕ
 erased_count blocks = count_by (λ block. is_erased block.state) blocks
+
+-- how many of the blocks can be collected
+abbrev pub collectable_count : ℕ → List BlockEntry → ℕ
+collectable_count per_block blocks = count_by (λ block. is_collectable per_block block) blocks
 
 -- the table with one block changed by this
 abbrev pub changed_at : TableView → ℕ → (BlockEntry → BlockEntry) → TableView

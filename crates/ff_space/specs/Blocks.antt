@@ -1,5 +1,5 @@
 -- One block of the table: what its state means, and what a call makes of it.
-use Rattle.std.specs.Prelude.{ℕ, ◌+◌, ◌-◌, ◌<◌, ◌≤◌, ◌≡◌, ◌==◌, Bool, true, false, if◌then◌else◌}
+use Rattle.std.specs.Prelude.{ℕ, ◌+◌, ◌-◌, ◌<◌, ◌≤◌, ◌≡◌, ◌==◌, Bool, true, false, if◌then◌else◌, ◌&&◌, nat_lt}
 use Rattle.ff_space.specs.declared.block.BlockEntry.{BlockEntry}
 use Rattle.ff_space.specs.declared.block.BlockState.{BlockState}
 use Rattle.ff_space.specs.declared.block.BlockState.TheVariants.{Erased, Open, Full, Held, Waiting}
@@ -33,6 +33,18 @@ is_erased Open = false
 is_erased Full = false
 is_erased Held = false
 is_erased Waiting = false
+
+-- whether a block in this state is full
+abbrev pub is_full : BlockState → Bool
+is_full Erased = false
+is_full Open = false
+is_full Full = true
+is_full Held = false
+is_full Waiting = false
+
+-- whether a block is full and not all of its pages are mapped
+abbrev pub is_collectable : ℕ → BlockEntry → Bool
+is_collectable per_block block = is_full block.state && nat_lt block.mapped per_block
 
 -- the state of a block by its write place alone, where it is neither held nor waiting
 abbrev pub state_by_next : ℕ → ℕ → BlockState

@@ -1,6 +1,6 @@
 // One block of the table: its state, its write place and its mapped pages, and what a call makes of them.
 ghost use Rattle.std.specs.Prelude.{ℕ, ◌≡◌, ◌≢◌, ◌+◌, ◌<◌, ◌≤◌, ◌^◌, if◌then◌else◌};
-ghost use Rattle.ff_space.specs.Blocks.{CanAdvance, IsBlockSound, advanced, after_hold, block_placed, emptied, filled, is_erased, mapped_less, mapped_more, raised_state, state_by_next, taken_block, erased_block, waiting};
+ghost use Rattle.ff_space.specs.Blocks.{CanAdvance, IsBlockSound, advanced, after_hold, block_placed, emptied, filled, is_collectable, is_erased, mapped_less, mapped_more, raised_state, state_by_next, taken_block, erased_block, waiting};
 ghost use Rattle.ff_space.specs.declared.block.BlockState.TheVariants.{Erased, Held, Waiting};
 
 /// What a block of the flash is used for.
@@ -62,6 +62,16 @@ impl BlockState {
 }
 
 impl BlockEntry {
+    // How many blocks that can be collected it counts as.
+    pub(crate) fn collectable(self, per_block: u32) -> u32
+        ensures { result ≡ (if is_collectable per_block self then 1 else 0) }
+    {
+        match self.state {
+            BlockState::Full if self.mapped < per_block => 1,
+            _ => 0,
+        }
+    }
+
     pub(crate) fn erased() -> BlockEntry
         ensures { result ≡ erased_block }
     {

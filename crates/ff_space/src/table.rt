@@ -1,5 +1,5 @@
 // The block table: the blocks by number, with the count of the erased ones beside them.
-ghost use Rattle.std.specs.Prelude.{◌≡◌, ◌≢◌, ◌<◌, ◌≤◌, IfOk, MatchOption, replicate, if◌then◌else◌};
+ghost use Rattle.std.specs.Prelude.{◌≡◌, ◌≢◌, ◌<◌, ◌≤◌, IfOk, MatchOption, replicate, if◌then◌else◌, IsTrue, ◌↔◌};
 ghost use Rattle.ff_base.specs.Geometry.{IsWithinLimits};
 ghost use Rattle.ff_space.specs.Blocks.{CanAdvance, IsBlockSound, advanced, after_hold, block_placed, erased_block, mapped_less, mapped_more, taken_block, waiting};
 ghost use Rattle.ff_space.specs.declared.block.BlockState.TheVariants.{Erased, Held, Open, Waiting};
@@ -26,6 +26,7 @@ pub enum Place {
 pub struct BlockTable {
     per_block: u32,
     erased: u32,
+    collectable: u32,
     blocks: Vec<BlockEntry>,
 }
 
@@ -57,6 +58,7 @@ impl BlockTable {
         Ok(BlockTable {
             per_block: geometry.per_block,
             erased: geometry.blocks,
+            collectable: 0,
             blocks,
         })
     }
@@ -86,6 +88,13 @@ impl BlockTable {
             (λ block. IsVictimBlock self.now.per_block self.now.blocks block.0) }
     {
         fewest_mapped(&self.blocks, self.per_block)
+    }
+
+    /// Whether a block can be collected. It doesn't look at the blocks.
+    pub fn has_victim(&self) -> bool
+        ensures { IsTrue result ↔ (IsAllMapped self.now → ⊥) }
+    {
+        self.collectable > 0
     }
 
     /// The least erased block.
@@ -228,7 +237,7 @@ impl BlockTable {
         self.blocks[block.0 as usize]
     }
 
-    // Replaces a block, and counts the erased ones anew.
+    // Replaces a block, and counts the erased ones and those that can be collected anew.
     fn put(&mut self, block: Block, entry: BlockEntry)
         requires in_range { IsInRange self.old block.0 }
         requires sound { IsBlockSound self.old.per_block entry }
@@ -237,6 +246,8 @@ impl BlockTable {
         let at = block.0 as usize;
         let before = self.blocks[at];
         self.erased = self.erased + entry.state.erased() - before.state.erased();
+        self.collectable = self.collectable + entry.collectable(self.per_block)
+            - before.collectable(self.per_block);
         self.blocks[at] = entry;
     }
 }

@@ -1,5 +1,5 @@
 -- What a contract sees of a window of posts, and what it keeps.
-use Rattle.std.specs.Prelude.{ℕ, ◌≤◌, ◌≡◌, List, [], ◌∷◌, length, All, Option, None}
+use Rattle.std.specs.Prelude.{ℕ, ◌≤◌, List, [], ◌∷◌, length, All, Option, None}
 use Rattle.std.specs.Option.{option_or}
 use Rattle.ff_lines.specs.Posts.{IsPost}
 use Rattle.ff_lines.specs.declared.post.Post.{Post}

@@ -1,5 +1,5 @@
 // A queue of posts with room for a number of them.
-ghost use Rattle.std.specs.Prelude.{◌≡◌, ◌<◌, ◌≤◌, ◌==◌, ◌↔◌, ◌++◌, ◌∷◌, [], IfOk, IfSome, IsSome, length};
+ghost use Rattle.std.specs.Prelude.{◌≡◌, ◌<◌, ◌≤◌, ◌==◌, ◌↔◌, ◌++◌, ◌∷◌, [], IfOk, IfSome, IsSome, drop, length};
 ghost use Rattle.std.specs.Option.{option_or, option_to_list};
 ghost use Rattle.ff_lines.specs.Posts.{waits_in, IsPost};
 ghost use Rattle.ff_window.specs.Window.{first_position, IsWindowSound};
@@ -69,6 +69,7 @@ impl Window {
     pub fn pop(&mut self) -> Option<Post>
         ensures posts { self.old.posts ≡ option_to_list result ++ self.new.posts }
         ensures found { IsSome result ↔ (0 < length self.old.posts) }
+        ensures rest { self.new.posts ≡ drop 1 self.old.posts }
         ensures room { self.new.room ≡ self.old.room }
         ensures sound { IsWindowSound self.old }
     {

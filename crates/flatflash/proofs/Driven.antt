@@ -8,7 +8,7 @@ use Rattle.std.proofs.lemmas.Bool.{eq-eqb, eqb-true}
 use Rattle.std.proofs.lemmas.List.Elements.{All-get_or}
 use Rattle.std.proofs.lemmas.List.{get_or-replicate, get_or_past, length-map, length-replicate, map-append}
 use Rattle.ff_base.specs.Geometry.{default_geometry}
-use Rattle.ff_core.specs.Core.{CoreView, entry_of, fresh_core}
+use Rattle.ff_core.specs.Core.{CoreView, due_entry, fresh_core}
 use Rattle.ff_core.specs.Record.{record_of}
 use Rattle.ff_model.specs.Callers.{entries_of}
 use Rattle.ff_model.specs.Legal.{IsLegal, faults_after, next_event}
@@ -80,7 +80,7 @@ numbers-more core numbers (Power arrive) had run = absurd (cc)
 numbers-more core numbers (Call caller op) had run =
     let place : caller.0 < 64 = grind (arith, nat_tests) in
     let number = get_or numbers caller.0 0 in
-    let entry = entry_of core caller number op in
+    let entry = due_entry core caller number op in
     let size = had.size in
     record {
       size = length-set numbers caller.0 (number + 1) ∙ had.size;
@@ -109,7 +109,7 @@ answered-more core rows (Power arrive) numbers had few next run = absurd (cc)
 answered-more core rows (Call caller op) numbers had few next run =
     let place : caller.0 < 64 = grind (arith, nat_tests) in
     let number = get_or numbers caller.0 0 in
-    let entry = entry_of core caller number op in
+    let entry = due_entry core caller number op in
     let count = length-append rows (Call caller op ∷ []) in
     let events = had.events in
     record {

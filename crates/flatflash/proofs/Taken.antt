@@ -3,11 +3,11 @@ use Rattle.std.proofs.Common.{◌≡◌, ◌≤◌, ℕ, List, [], ◌++◌, len
 use Rattle.std.specs.Prelude.{Option, Some, None, IfSome}
 use Rattle.std.proofs.lemmas.List.{append-nil}
 use Rattle.std.specs.Io.KnownBytes.{Consumes, IsAtEnd}
-use Rattle.flatflash.specs.Input.{Takes}
+use Rattle.flatflash.specs.Input.{TakesBytes}
 use Rattle.flatflash.specs.Input.{input_limit}
 
 -- the bytes that were taken, by their number
-pub takes_from : (a b : Option (List ℕ)) (bytes : List ℕ) (IsSuch : ℕ → Type 0) → Consumes a b bytes → IsSuch (length bytes) → Takes a b IsSuch
+pub takes_from : (a b : Option (List ℕ)) (bytes : List ℕ) (IsSuch : ℕ → Type 0) → Consumes a b bytes → IsSuch (length bytes) → TakesBytes a b IsSuch
 takes_from None b bytes IsSuch taken such = tt
 takes_from (Some all) None bytes IsSuch taken such = absurd taken
 takes_from (Some all) (Some rest) bytes IsSuch taken such = (bytes, rest, taken, refl, such)

@@ -50,8 +50,8 @@ IsRunCause source (refusal.BadRow number) =
     (HasTrace (λ trace. IsCauseOf one_thread trace (bad.Row number) ⊎ IsFirstOther trace number))
 
 -- why a call of the program is refused: by its words, and then nothing was read, or by its input
-abbrev pub IsRefused : List (List ℕ) → SourceChange → Refusal → Type 0
-IsRefused words source why =
+abbrev pub IsRefusal : List (List ℕ) → SourceChange → Refusal → Type 0
+IsRefusal words source why =
     (IsWordsCause words why × Untouched source) ⊎ (AskToSchedule words × IsRunCause source why)
 
 -- the whole input was read, and its trace is these rows
@@ -66,7 +66,7 @@ RunsInput source sessions = (rows : List Row) × ReadsRows source rows × AreSes
 abbrev pub IsEnd : List (List ℕ) → SourceChange → End → Type 0
 IsEnd words source (Ok sessions) =
     AskToSchedule words × RunsInput source sessions
-IsEnd words source (Err why) = IsRefused words source why
+IsEnd words source (Err why) = IsRefusal words source why
 
 -- a sink before and after a call: the bytes that it holds, where it tells them, and how often it
 -- has failed

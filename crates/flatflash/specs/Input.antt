@@ -42,20 +42,20 @@ pub record Untouched (source : SourceChange) : Type 0 where
   pub faults : HasNoFault source
 
 -- some bytes were taken from those that were left, and their number is such
-abbrev pub Takes : Option (List ℕ) → Option (List ℕ) → (ℕ → Type 0) → Type 0
-Takes None after IsSuch = Unit {0}
-Takes (Some bytes) after IsSuch =
+abbrev pub TakesBytes : Option (List ℕ) → Option (List ℕ) → (ℕ → Type 0) → Type 0
+TakesBytes None after IsSuch = Unit {0}
+TakesBytes (Some bytes) after IsSuch =
     (taken rest : List ℕ) × (bytes ≡ taken ++ rest) × (after ≡ Some rest) × IsSuch (length taken)
 
 -- more bytes came than an input may have, by one read at most
 pub record ReadsTooMuch (source : SourceChange) : Type 0 where
-  pub bytes : Takes source.before source.after
+  pub bytes : TakesBytes source.before source.after
       (λ count. (input_limit < count) × (count ≤ input_limit + chunk_size))
   pub faults : HasNoFault source
 
 -- a read failed, and before it no more bytes came than an input may have
 pub record FailsToRead (source : SourceChange) : Type 0 where
-  pub bytes : Takes source.before source.after (λ count. count ≤ input_limit)
+  pub bytes : TakesBytes source.before source.after (λ count. count ≤ input_limit)
   pub faults : Rose source.faults_before source.faults_after
   pub no_fall : source.faults_before ≤ source.faults_after
 

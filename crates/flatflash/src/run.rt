@@ -4,7 +4,7 @@ ghost use Rattle.std.specs.String.{string_bytes};
 ghost use Rattle.ff_base.specs.Geometry.{default_geometry};
 ghost use Rattle.ff_core.specs.Core.{fresh_core};
 ghost use Rattle.ff_trace.specs.Tally.{most_rows};
-ghost use Rattle.flatflash.specs.Ending.{IsEnd, IsRefused, IsRunCause, ReadsRows, RunsInput};
+ghost use Rattle.flatflash.specs.Ending.{IsEnd, IsRefusal, IsRunCause, ReadsRows, RunsInput};
 ghost use Rattle.flatflash.specs.Input.{source_change};
 ghost use Rattle.flatflash.specs.Runs.{AreNextNumbers, AreRun, HasAnswered, IsFirstSession, after_row, row_caller, first_other, is_run};
 
@@ -27,7 +27,7 @@ pub fn run<S: Source>(
     ensures ok { IfOk result (λ sessions. IsEnd (map string_bytes words.now)
         (source_change S.left S.faults source.old source.new) (Ok sessions.items)) }
     ensures few { IfOk result (λ sessions. vec_len sessions ≡ 1) }
-    ensures err { IfErr result (IsRefused (map string_bytes words.now)
+    ensures err { IfErr result (IsRefusal (map string_bytes words.now)
         (source_change S.left S.faults source.old source.new)) }
 {
     match expect_schedule(alloc, words) {

@@ -21,21 +21,24 @@ fn write_at(slots: &mut Vec<Slot>, k: u32, line: u8, from: u8, piece: &Piece)
 
 fn pin_at(slots: &mut Vec<Slot>, k: u32, on: bool)
     requires { k < length slots.old.items }
-    ensures { slots.new.items ≡ slice_set slots.old.items k (slot_pinned on (slot_at slots.old.items k)) }
+    ensures { slots.new.items
+        ≡ slice_set slots.old.items k (slot_pinned on (slot_at slots.old.items k)) }
 {
     slots[k as usize].pin(on);
 }
 
 fn begin_flush_at(slots: &mut Vec<Slot>, k: u32)
     requires { k < length slots.old.items }
-    ensures { slots.new.items ≡ slice_set slots.old.items k (slot_flushing (slot_at slots.old.items k)) }
+    ensures { slots.new.items
+        ≡ slice_set slots.old.items k (slot_flushing (slot_at slots.old.items k)) }
 {
     slots[k as usize].begin_flush();
 }
 
 fn end_flush_at(slots: &mut Vec<Slot>, k: u32)
     requires { k < length slots.old.items }
-    ensures { slots.new.items ≡ slice_set slots.old.items k (slot_flushed (slot_at slots.old.items k)) }
+    ensures { slots.new.items
+        ≡ slice_set slots.old.items k (slot_flushed (slot_at slots.old.items k)) }
 {
     slots[k as usize].end_flush();
 }
@@ -63,8 +66,10 @@ impl Cache {
         requires full { is_empty (slot_at self.old.slots slot) ≡ false }
         requires line { line < 64 }
         requires span { from + length piece.now ≤ 64 }
-        ensures { self.new ≡ record self.old { slots = slice_set self.old.slots slot
-            (slot_written (slot_at self.old.slots slot) line from piece.now) } }
+        ensures { self.new ≡ record self.old {
+          slots = slice_set self.old.slots slot
+              (slot_written (slot_at self.old.slots slot) line from piece.now);
+        } }
     {
         write_at(&mut self.slots, slot, line, from, piece);
     }
@@ -73,8 +78,10 @@ impl Cache {
     pub fn pin(&mut self, slot: u32, on: bool)
         requires slot { slot < length self.old.slots }
         requires full { is_empty (slot_at self.old.slots slot) ≡ false }
-        ensures { self.new ≡ record self.old { slots = slice_set self.old.slots slot
-            (slot_pinned on (slot_at self.old.slots slot)) } }
+        ensures { self.new ≡ record self.old {
+          slots = slice_set self.old.slots slot
+              (slot_pinned on (slot_at self.old.slots slot));
+        } }
     {
         pin_at(&mut self.slots, slot, on);
     }
@@ -83,8 +90,10 @@ impl Cache {
     pub fn begin_flush(&mut self, slot: u32)
         requires slot { slot < length self.old.slots }
         requires full { is_empty (slot_at self.old.slots slot) ≡ false }
-        ensures { self.new ≡ record self.old { slots = slice_set self.old.slots slot
-            (slot_flushing (slot_at self.old.slots slot)) } }
+        ensures { self.new ≡ record self.old {
+          slots = slice_set self.old.slots slot
+              (slot_flushing (slot_at self.old.slots slot));
+        } }
     {
         begin_flush_at(&mut self.slots, slot);
     }
@@ -93,8 +102,10 @@ impl Cache {
     pub fn end_flush(&mut self, slot: u32)
         requires slot { slot < length self.old.slots }
         requires full { is_empty (slot_at self.old.slots slot) ≡ false }
-        ensures { self.new ≡ record self.old { slots = slice_set self.old.slots slot
-            (slot_flushed (slot_at self.old.slots slot)) } }
+        ensures { self.new ≡ record self.old {
+          slots = slice_set self.old.slots slot
+              (slot_flushed (slot_at self.old.slots slot));
+        } }
     {
         end_flush_at(&mut self.slots, slot);
     }
@@ -107,8 +118,9 @@ impl Cache {
         requires unpinned { (slot_at self.old.slots slot).pinned ≡ false }
         requires absent { held self.old.slots page.0 ≡ None }
         ensures { self.new ≡ record self.old {
-            slots = slice_set self.old.slots slot (slot_filled page.0 from.now);
-            values = with_value self.old slot long_value } }
+          slots = slice_set self.old.slots slot (slot_filled page.0 from.now);
+          values = with_value self.old slot long_value;
+        } }
     {
         fill_at(&mut self.slots, slot, page, from);
         insert_at(&mut self.values, slot / self.ways, slot % self.ways);

@@ -22,8 +22,10 @@ fn victim_at(values: &mut Vec<Ways>, set: u32, allowed: u32) -> Option<u32>
         (IsVictimWay allowed (values_at values.old.items set) (values_at values.new.items set)) }
     ensures none { IsNone result ↔ NoneAllowed (values_at values.old.items set) allowed }
     ensures kept { IfNone result (values.new.items ≡ values.old.items) }
-    ensures others { values.new.items ≡ slice_set values.old.items set (values_at values.new.items set) }
-    ensures ways { length (values_at values.new.items set) ≡ length (values_at values.old.items set) }
+    ensures others { values.new.items
+        ≡ slice_set values.old.items set (values_at values.new.items set) }
+    ensures ways { length (values_at values.new.items set)
+        ≡ length (values_at values.old.items set) }
 {
     values[set as usize].victim(allowed)
 }

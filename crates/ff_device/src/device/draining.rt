@@ -1,6 +1,6 @@
 // Posts that are laid over their pages' slots.
 ghost use Rattle.std.specs.Prelude.{◌≡◌, ◌≤◌, ◌<◌, min, length, nat_lt};
-ghost use Rattle.ff_device.specs.DeviceFields.{lines_of, parts_of};
+ghost use Rattle.ff_device.specs.DeviceFields.{lines_in};
 ghost use Rattle.ff_device.specs.Draining.{DrainsFirst, SameFrames};
 ghost use Rattle.ff_lines.specs.DeviceState.{IsDrained};
 
@@ -11,7 +11,7 @@ impl<S: Store> Device<S> {
     /// Drains the oldest post. Whether one waited.
     pub fn drain_one(&mut self) -> bool
         ensures found { result ≡ nat_lt 0 (length self.old.window.posts) }
-        ensures drained { DrainsFirst 1 (lines_of (parts_of S.seen self.old)) (lines_of (parts_of S.seen self.new)) }
+        ensures drained { DrainsFirst 1 (lines_in S.seen self.old) (lines_in S.seen self.new) }
         ensures store { self.new.store ≡ self.old.store }
         ensures frames { SameFrames self.old.cache self.new.cache }
         ensures window { self.new.window.room ≡ self.old.window.room }
@@ -29,7 +29,7 @@ impl<S: Store> Device<S> {
     // Drains so many of the oldest posts.
     #[tactic(auto, using(crate::proofs::Drained::drains_more, crate::proofs::Drained::drains_none, crate::proofs::Drained::frames_more, crate::proofs::Drained::frames_same))]
     pub fn drain_first(&mut self, count: u32)
-        ensures drained { DrainsFirst count (lines_of (parts_of S.seen self.old)) (lines_of (parts_of S.seen self.new)) }
+        ensures drained { DrainsFirst count (lines_in S.seen self.old) (lines_in S.seen self.new) }
         ensures store { self.new.store ≡ self.old.store }
         ensures frames { SameFrames self.old.cache self.new.cache }
         ensures window { self.new.window.room ≡ self.old.window.room }
@@ -42,7 +42,7 @@ impl<S: Store> Device<S> {
     // Drains every post.
     #[tactic(auto, using(crate::proofs::Drained::drains_all))]
     pub fn drain_window(&mut self)
-        ensures drained { IsDrained (lines_of (parts_of S.seen self.old)) (lines_of (parts_of S.seen self.new)) }
+        ensures drained { IsDrained (lines_in S.seen self.old) (lines_in S.seen self.new) }
         ensures store { self.new.store ≡ self.old.store }
         ensures frames { SameFrames self.old.cache self.new.cache }
         ensures window { self.new.window.room ≡ self.old.window.room }

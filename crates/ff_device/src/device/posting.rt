@@ -1,6 +1,6 @@
 // Reads of cached lines, posts, and the hits that both may be.
 ghost use Rattle.std.specs.Prelude.{◌≡◌, ◌≤◌, ◌<◌, ◌++◌, ◌∷◌, ◌==◌, [], true, length, if◌then◌else◌};
-ghost use Rattle.ff_device.specs.DeviceFields.{lines_of, parts_of};
+ghost use Rattle.ff_device.specs.DeviceFields.{lines_in, parts_of};
 ghost use Rattle.ff_device.specs.Draining.{DrainsFirst, HitIf, SameFrames};
 ghost use Rattle.ff_device.specs.Parts.{is_resident, line_below};
 ghost use Rattle.ff_lines.specs.DeviceState.{HasRoom, IsDrained};
@@ -20,7 +20,8 @@ impl<S: Store> Device<S> {
         ensures bytes { result ≡ line_below (parts_of S.seen self.old) page.0 line }
         ensures hit { HitIf hit page.0 self.old.cache self.new.cache.values }
         ensures same { self.new ≡ record self.old {
-            cache = record self.old.cache { values = self.new.cache.values } } }
+          cache = record self.old.cache { values = self.new.cache.values };
+        } }
     {
         match self.cache.find(page) {
             Some(slot) => {
@@ -37,7 +38,8 @@ impl<S: Store> Device<S> {
         requires resident { is_resident (parts_of S.seen self.old) page.0 ≡ true }
         ensures hit { HitIf hit page.0 self.old.cache self.new.cache.values }
         ensures same { self.new ≡ record self.old {
-            cache = record self.old.cache { values = self.new.cache.values } } }
+          cache = record self.old.cache { values = self.new.cache.values };
+        } }
     {
         match self.cache.find(page) {
             Some(slot) => use_again(&mut self.cache, slot, hit),
@@ -49,7 +51,7 @@ impl<S: Store> Device<S> {
     #[tactic(auto, using(crate::proofs::Drained::drains_none, crate::proofs::Drained::frames_same))]
     pub fn make_room(&mut self)
         ensures drained { DrainsFirst (if length self.old.window.posts == self.old.window.room then 1 else 0)
-            (lines_of (parts_of S.seen self.old)) (lines_of (parts_of S.seen self.new)) }
+            (lines_in S.seen self.old) (lines_in S.seen self.new) }
         ensures room { length self.new.window.posts < self.new.window.room }
         ensures store { self.new.store ≡ self.old.store }
         ensures frames { SameFrames self.old.cache self.new.cache }
@@ -65,9 +67,10 @@ impl<S: Store> Device<S> {
         requires resident { is_resident (parts_of S.seen self.old) post.page.0 ≡ true }
         requires post { IsPost post }
         requires free { length self.old.window.posts < self.old.window.room }
-        requires room { HasRoom (lines_of (parts_of S.seen self.old)) post.page.0 }
+        requires room { HasRoom (lines_in S.seen self.old) post.page.0 }
         ensures { self.new ≡ record self.old {
-            window = record { posts = self.old.window.posts ++ post ∷ []; room = self.old.window.room } } }
+          window = record { posts = self.old.window.posts ++ post ∷ []; room = self.old.window.room };
+        } }
     {
         self.window.post(post);
     }

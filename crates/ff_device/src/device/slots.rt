@@ -1,10 +1,10 @@
 // What is done to the slot of a page that is cached.
-ghost use Rattle.std.specs.Prelude.{◌≡◌, ◌+◌, ◌<◌, ◌≤◌, ◌-◌, IsSome, length, if◌then◌else◌, false, true};
-ghost use Rattle.ff_cache.specs.Cache.{with_value};
+ghost use Rattle.std.specs.Prelude.{◌≡◌, ◌+◌, ◌<◌, ◌≤◌, ◌-◌, IsSome, IfNone, MatchOption, length, if◌then◌else◌, false, true};
+ghost use Rattle.ff_cache.specs.Cache.{values_of, with_value, IsChosen};
 ghost use Rattle.ff_cache.specs.Slots.{held, slot_flushed, slot_flushing, slot_pinned};
 ghost use Rattle.ff_device.specs.Changes.{slot_after, Changes};
 ghost use Rattle.ff_lines.specs.Posts.{IsPost};
-ghost use Rattle.ff_rrip.specs.Ways.{near_value};
+ghost use Rattle.ff_rrip.specs.Ways.{near_value, NoneAllowed};
 
 use ff_base::PageNo;
 use ff_cache::Cache;
@@ -55,9 +55,25 @@ pub fn set_pin(cache: &mut Cache, page: PageNo, on: bool)
 pub fn use_again(cache: &mut Cache, slot: u32, hit: bool)
     requires { slot < length cache.old.slots }
     ensures { cache.new ≡ record cache.old {
-        values = (if hit then with_value cache.old slot near_value else cache.old.values) } }
+      values = (if hit then with_value cache.old slot near_value else cache.old.values);
+    } }
 {
     if hit {
         cache.hit(slot);
+    }
+}
+
+// The slot of the page's set that gives way, of the ways whose bit is 1.
+#[tactic(auto, using(crate::proofs::Choices::same_but_values, crate::proofs::Choices::same_cache))]
+pub fn choose_way(cache: &mut Cache, page: PageNo, allowed: u32) -> Option<u32>
+    ensures told { MatchOption result
+        ((cache.new ≡ cache.old) × NoneAllowed (values_of cache.old page.0) allowed)
+        (IsChosen allowed page.0 cache.old cache.new) }
+    ensures same { cache.new ≡ record cache.old { values = cache.new.values } }
+    ensures kept { IfNone result (cache.new ≡ cache.old) }
+{
+    match cache.choose(page, allowed) {
+        Some(slot) => Some(slot),
+        None => None,
     }
 }

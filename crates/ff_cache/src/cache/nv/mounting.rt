@@ -20,7 +20,8 @@ fn calm_slot(slot: &mut Slot)
 
 fn calm_at(slots: &mut Vec<Slot>, k: usize)
     requires { k < length slots.old.items }
-    ensures { slots.new.items ≡ slice_set slots.old.items k (slot_of (way_of (slot_at slots.old.items k))) }
+    ensures { slots.new.items
+        ≡ slice_set slots.old.items k (slot_of (way_of (slot_at slots.old.items k))) }
 {
     calm_slot(&mut slots[k]);
 }
@@ -37,7 +38,8 @@ fn calm(slots: &mut Vec<Slot>)
 fn mount_way(made: &mut Ways, way: u32, empty: bool)
     requires { way < length made.old }
     ensures size { length made.new ≡ length made.old }
-    ensures value { slice_index made.new way ≡ (if empty then slice_index made.old way else long_value) }
+    ensures value { slice_index made.new way
+        ≡ (if empty then slice_index made.old way else long_value) }
     ensures others { (k : ℕ) → k ≢ way → slice_index made.new k ≡ slice_index made.old k }
 {
     if !empty {
@@ -61,7 +63,12 @@ fn mounted_ways(alloc: Global, slots: &[Slot], from: u32, ways: u32) -> Result<W
 }
 
 #[tactic(auto, using(crate::proofs::Sets::set_fits, crate::proofs::Mounted::mounted_more))]
-fn mounted_values(alloc: Global, slots: &[Slot], sets: u32, ways: u32) -> Result<Vec<Ways>, NoMemory>
+fn mounted_values(
+    alloc: Global,
+    slots: &[Slot],
+    sets: u32,
+    ways: u32,
+) -> Result<Vec<Ways>, NoMemory>
     requires size { length slots.now ≡ sets * ways }
     requires few_ways { ways ≤ 16 }
     requires few { sets * ways ≤ 4096 }

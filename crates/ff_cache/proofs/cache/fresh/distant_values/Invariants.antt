@@ -1,4 +1,4 @@
-use Rattle.std.proofs.Common.{◌≡◌, ◌<◌, ◌≤◌, ℕ, ◌+◌, ◌*◌, length, take, true, false}
+use Rattle.std.proofs.Common.{◌≡◌}
 use Rattle.std.proofs.Math.ListN.{replicate}
 use Rattle.ff_rrip.specs.Ways.{distant_value}
 use Rattle.ff_cache.proofs.cache.fresh.distant_values.Given as goal

@@ -1,4 +1,4 @@
-use Rattle.std.proofs.Common.{◌≡◌, ◌<◌, ◌≤◌, ℕ, ◌+◌, ◌*◌, length, take, true, false}
+use Rattle.std.proofs.Common.{◌≡◌, take}
 use Rattle.ff_cache.specs.Nv.{ways_of}
 use Rattle.ff_cache.proofs.cache.nv.copy_slots.Given as goal
 

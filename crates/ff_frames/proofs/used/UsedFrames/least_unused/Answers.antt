@@ -1,4 +1,4 @@
-use Rattle.std.proofs.Common.{◌<◌, length, refl, sym, arith}
+use Rattle.std.proofs.Common.{◌<◌, length, refl, arith}
 use Rattle.std.proofs.lemmas.List.{get_or_read}
 use Rattle.ff_lines.specs.LineMask.{no_lines}
 use Rattle.ff_frames.proofs.Unused.{least-here, used-more}

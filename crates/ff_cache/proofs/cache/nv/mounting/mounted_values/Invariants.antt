@@ -1,4 +1,3 @@
-use Rattle.std.proofs.Common.{◌≡◌, ◌<◌, ◌≤◌, ℕ, ◌+◌, ◌*◌, length, take, true, false}
 use Rattle.ff_cache.specs.Nv.{AreMounted}
 use Rattle.ff_cache.proofs.cache.nv.mounting.mounted_values.Given as goal
 

@@ -1,4 +1,4 @@
-use Rattle.std.proofs.Common.{◌≡◌, ◌<◌, ◌≤◌, ℕ, ◌+◌, ◌*◌, length, take, true, false}
+use Rattle.std.proofs.Common.{◌≡◌, ◌<◌, ◌≤◌, ℕ, ◌+◌, length}
 use Rattle.std.specs.Prelude.{slice_index}
 use Rattle.ff_cache.specs.Nv.{mounted_value}
 use Rattle.ff_cache.specs.Slots.{slot_at}

@@ -1,0 +1,48 @@
+// What a power loss leaves of the posts.
+ghost use Rattle.std.specs.Prelude.{◌≡◌, ℕ, [], drop, take, length};
+ghost use Rattle.ff_device.specs.DeviceFields.{parts_of};
+ghost use Rattle.ff_device.specs.Parts.{is_resident, line_below};
+ghost use Rattle.ff_lines.specs.PageSets.{SameSet};
+ghost use Rattle.ff_lines.specs.Posts.{laid};
+ghost use Rattle.ff_window.specs.Window.{first_position};
+
+use crate::{Device, Store};
+use ff_window::Window;
+
+fn lose(window: &mut Window)
+    ensures posts { window.new.posts ≡ [] }
+    ensures room { window.new.room ≡ window.old.room }
+{
+    for _ in 0..window.len() {
+        window.pop();
+    }
+}
+
+impl<S: Store> Device<S> {
+    // Loses every post that waits. The first position that was lost.
+    fn lose_window(&mut self) -> Option<u32>
+        ensures lost { result ≡ first_position self.old.window.posts }
+        ensures posts { self.new.window.posts ≡ [] }
+        ensures store { self.new.store ≡ self.old.store }
+        ensures cache { self.new.cache ≡ self.old.cache }
+    {
+        let lost = self.window.first_position();
+        lose(&mut self.window);
+        lost
+    }
+
+    /// So many of the oldest posts arrive, and the others are lost: the first position that was.
+    #[tactic(auto, using(crate::proofs::Arriving::take_some, crate::proofs::Arriving::drop_some))]
+    pub fn arrive(&mut self, count: u32) -> Option<u32>
+        ensures lost { result ≡ first_position (drop count self.old.window.posts) }
+        ensures below { (page line : ℕ) → line_below (parts_of S.seen self.new) page line
+            ≡ laid page line (take count self.old.window.posts) (line_below (parts_of S.seen self.old) page line) }
+        ensures posts { self.new.window.posts ≡ [] }
+        ensures resident { SameSet (is_resident (parts_of S.seen self.old)) (is_resident (parts_of S.seen self.new)) }
+        ensures store { self.new.store ≡ self.old.store }
+    {
+        let some = count.min(self.window.len());
+        self.drain_first(some);
+        self.lose_window()
+    }
+}

@@ -1,0 +1,13 @@
+pub mod Begun
+pub mod Counting
+pub mod Emptied
+pub mod Falling
+pub mod Keeping
+pub mod Numbers
+pub mod PageCopies
+pub mod PageSeals
+pub mod Retaining
+pub mod Stepping
+pub mod Switched
+pub mod Tables
+pub mod Takings

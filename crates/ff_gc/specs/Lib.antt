@@ -1,0 +1,9 @@
+pub mod Cells
+pub mod Collector
+pub mod CollectorFields
+pub mod Counts
+pub mod Left
+pub mod Originals
+pub mod Running
+pub mod Steps
+pub mod World

@@ -1,0 +1,11 @@
+pub mod Around
+pub mod Basics
+pub mod Calling
+pub mod Flushing
+pub mod Fresh
+pub mod Mounting
+pub mod Pigeons
+pub mod Remaining
+pub mod Settled
+pub mod Settling
+pub mod Written
