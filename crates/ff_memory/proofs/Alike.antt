@@ -20,7 +20,7 @@ use Rattle.ff_memory.specs.declared.access.Access.{Access}
 use Rattle.ff_memory.specs.Memory.{MemoryView, entry_at, frame_set, home_at}
 use Rattle.ff_memory.specs.Places.{Holds, SamePlaces, line_from, serving_frame}
 use Rattle.ff_plb.specs.Plb.{entry_of}
-use Rattle.ff_table.specs.Table.{TableView, home_of}
+use Rattle.ff_table.specs.Table.{PageTableView, home_of}
 use Rattle.ff_memory.proofs.Sites.{IsAlike, SameAt, alike-same, same-device, sited-other}
 
 -- nothing changed but referred flags, and what a device may do by itself
@@ -36,7 +36,7 @@ pub record IsLike (m : MemoryView) (d : DeviceState) (m' : MemoryView) (d' : Dev
   pub pages : d'.pages ≡ d.pages
 
 home-like : (m : MemoryView) (d : DeviceState) (m' : MemoryView) (d' : DeviceState) (page : ℕ) → IsLike m d m' d' → home_at m' page ≡ home_at m page
-home-like m d m' d' page is = ap (λ (t : TableView). home_of t page) is.table
+home-like m d m' d' page is = ap (λ (t : PageTableView). home_of t page) is.table
 
 entry-like : (m : MemoryView) (d : DeviceState) (m' : MemoryView) (d' : DeviceState) (page : ℕ) → IsLike m d m' d' → entry_at m' page ≡ entry_at m page
 entry-like m d m' d' page is = ap (λ s. entry_of s page) is.slots
