@@ -85,8 +85,10 @@ impl<E: Pick> Evictor<E> {
         requires hand { self.now.hand < length frames.now }
         requires frame { frame < length frames.now }
         requires seen { steps_after (length frames.now) self.now.hand frame ≡ seen }
-        requires best { IsBestOfFirst seen (E.score self.now.picker.pick) frames.now busy.now self.now.hand best }
-        ensures { IsBestOfFirst (seen + 1) (E.score self.now.picker.pick) frames.now busy.now self.now.hand result }
+        requires best { IsBestOfFirst seen (E.score self.now.picker.pick)
+            frames.now busy.now self.now.hand best }
+        ensures { IsBestOfFirst (seen + 1) (E.score self.now.picker.pick)
+            frames.now busy.now self.now.hand result }
     {
         if !may_retreat(frames, busy, frame) {
             return best;

@@ -1,10 +1,9 @@
 -- The facts and the lines stay where the frames change in their referred flags alone, and no line of the device changes.
-use Rattle.std.specs.Prelude.{is_some}
-use Rattle.std.proofs.Common.{◌≡◌, ◌≢◌, ℕ, ◌<◌, Bool, true, false, List, length, Option, None, Some, inl, inr, refl, sym, ap, ◌∙◌}
+use Rattle.std.proofs.Common.{◌≡◌, ℕ, Bool, true, false, List, length, Option, None, Some, inl, inr, refl, sym, ap, ◌∙◌}
 use Rattle.ff_base.specs.Page.{line_of}
 use Rattle.ff_frames.specs.Frames.{frame_at}
 use Rattle.ff_frames.specs.declared.frame.Frame.{Frame}
-use Rattle.ff_lines.specs.DeviceState.{DeviceState, IsDrained, line_at, waits}
+use Rattle.ff_lines.specs.DeviceState.{DeviceState, IsDrained}
 use Rattle.ff_lines.specs.LineMask.{has_line}
 use Rattle.ff_lines.specs.Posts.{waits_in}
 use Rattle.ff_lines.specs.Works.{KeepsLines}
@@ -15,13 +14,13 @@ use Rattle.std.proofs.lemmas.Bool.{cases_eq, cases_lt}
 use Rattle.std.proofs.lemmas.Grind.{get_or-set_at}
 use Rattle.std.proofs.lemmas.List.{get_or-set_other, get_or_past}
 use Rattle.ff_frames.specs.Frame.{free_frame, referred_frame}
-use Rattle.ff_memory.specs.Located.{IsAccounted, IsLocated}
+use Rattle.ff_memory.specs.Located.{IsLocated}
 use Rattle.ff_memory.specs.Loads.{IsLoadBy}
 use Rattle.ff_memory.specs.declared.access.Access.{Access}
-use Rattle.ff_memory.specs.Memory.{MemoryView, entry_at, frame_set, home_at, numbered}
-use Rattle.ff_memory.specs.Places.{Holds, SamePlaces, frame_of_page, line_from, place, serving_frame}
+use Rattle.ff_memory.specs.Memory.{MemoryView, entry_at, frame_set, home_at}
+use Rattle.ff_memory.specs.Places.{Holds, SamePlaces, line_from, serving_frame}
 use Rattle.ff_plb.specs.Plb.{entry_of}
-use Rattle.ff_table.specs.Table.{TableView, born_count, home_of, is_born, marks_of}
+use Rattle.ff_table.specs.Table.{PageTableView, home_of}
 use Rattle.ff_memory.proofs.Sites.{IsAlike, SameAt, alike-same, same-device, sited-other}
 
 -- nothing changed but referred flags, and what a device may do by itself
@@ -37,7 +36,7 @@ pub record IsLike (m : MemoryView) (d : DeviceState) (m' : MemoryView) (d' : Dev
   pub pages : d'.pages ≡ d.pages
 
 home-like : (m : MemoryView) (d : DeviceState) (m' : MemoryView) (d' : DeviceState) (page : ℕ) → IsLike m d m' d' → home_at m' page ≡ home_at m page
-home-like m d m' d' page is = ap (λ (t : TableView). home_of t page) is.table
+home-like m d m' d' page is = ap (λ (t : PageTableView). home_of t page) is.table
 
 entry-like : (m : MemoryView) (d : DeviceState) (m' : MemoryView) (d' : DeviceState) (page : ℕ) → IsLike m d m' d' → entry_at m' page ≡ entry_at m page
 entry-like m d m' d' page is = ap (λ s. entry_of s page) is.slots

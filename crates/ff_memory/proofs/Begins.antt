@@ -1,18 +1,16 @@
 -- The beginnings of migrations keep the facts and every line.
-use Rattle.std.specs.Prelude.{is_some}
-use Rattle.std.proofs.Common.{◌≡◌, ◌≢◌, ℕ, ◌<◌, not, Bool, true, false, List, length, get_or, set, Option, None, Some, inl, inr, refl, sym, ap, ◌∙◌, subst, arith, length-set}
-use Rattle.std.proofs.lemmas.Bool.{cases_Bool, cases_eq, not-false}
+use Rattle.std.proofs.Common.{◌≡◌, ◌≢◌, ℕ, ◌<◌, not, Bool, true, false, List, length, set, Option, None, Some, inl, inr, refl, sym, ap, ◌∙◌, length-set}
+use Rattle.std.proofs.lemmas.Bool.{cases_eq, not-false}
 use Rattle.std.proofs.lemmas.List.{get_or-set_same, get_or-set_other}
-use Rattle.std.proofs.lemmas.Option.{none-some, same_Some}
+use Rattle.std.proofs.lemmas.Option.{none-some}
 use Rattle.ff_base.specs.Page.{line_of}
 use Rattle.ff_base.specs.declared.numbers.PageNo.{PageNo}
 use Rattle.ff_frames.specs.Frame.{free_frame, taken_frame}
 use Rattle.ff_frames.specs.Frames.{frame_at}
 use Rattle.ff_frames.specs.declared.frame.Frame.{Frame}
-use Rattle.ff_lines.specs.DeviceState.{DeviceState, line_at, waits}
+use Rattle.ff_lines.specs.DeviceState.{DeviceState, line_at}
 use Rattle.ff_lines.specs.LineMask.{has_line, mask_others, no_lines}
 use Rattle.ff_lines.specs.Posts.{waits_in}
-use Rattle.ff_lines.specs.declared.line_mask.LineMask.{LineMask}
 use Rattle.ff_lines.proofs.DeviceLines.{line_at-drained, line_at-pinned, waits-all_drained}
 use Rattle.ff_lines.proofs.MaskLines.{has_line-no_lines}
 use Rattle.ff_memory.specs.Begins.{CanPromote, CanRetreat, IsDrainedAndPinned, IsPromoted, IsRetreated}
@@ -24,12 +22,11 @@ use Rattle.ff_plb.specs.Slot.{after_turn}
 use Rattle.ff_plb.specs.declared.slot.Slot.{Slot}
 use Rattle.ff_plb.specs.declared.slot.Way.TheVariants.{Coming, Leaving}
 use Rattle.ff_plb.proofs.Entries.{apart-begin, entry-now, entry-other, entry_if-other}
-use Rattle.ff_table.specs.declared.table.Home.TheVariants.{Ssd, Host}
+use Rattle.ff_table.specs.declared.table.Home.TheVariants.{Host}
 use Rattle.ff_memory.proofs.Finishes.{home-here, home-other, pinned-here, pinned-other, pinned-same}
 use Rattle.ff_memory.proofs.FlightMoves.{IsFlightStep, flight-move, place-after, place-before}
-use Rattle.ff_memory.proofs.Flights.{IsEntryOf, as-coming, entry-is, flies, held-within, page-within}
+use Rattle.ff_memory.proofs.Flights.{IsEntryOf, as-coming, flies, page-within}
 use Rattle.ff_memory.proofs.Lifts.{KeepsLinesOf}
-use Rattle.ff_memory.proofs.Moves.{IsMove}
 use Rattle.ff_memory.proofs.Sites.{SameAt, one-page, same-device}
 
 begun-entry : (m : MemoryView) (k : ℕ) (t : Slot) → IsMemorySound m → k < length m.slots → entry_at m t.page.0 ≡ None

@@ -1,20 +1,18 @@
 -- A page in flight whose lines are all copied comes to its new home.
-use Rattle.std.specs.Prelude.{is_some}
-use Rattle.std.proofs.Common.{◌≡◌, ◌≢◌, ℕ, ◌<◌, ◌==◌, Bool, true, false, List, length, get_or, set, Option, None, Some, inl, inr, refl, sym, ap, ◌∙◌, subst, arith, length-set}
-use Rattle.std.specs.Prelude.{if◌then◌else◌}
+use Rattle.std.proofs.Common.{◌≡◌, ◌≢◌, ℕ, ◌<◌, ◌==◌, Bool, true, false, List, length, get_or, set, Option, None, Some, inl, inr, refl, sym, ap, ◌∙◌, length-set}
 use Rattle.std.proofs.lemmas.Bool.{cases_eq, eq-eqb, ne_eqb}
 use Rattle.std.proofs.lemmas.List.{get_or-set_same, get_or-set_other}
 use Rattle.std.proofs.lemmas.Option.{none-some, same_Some}
 use Rattle.ff_frames.specs.Frame.{free_frame, given_frame}
 use Rattle.ff_frames.specs.Frames.{frame_at}
 use Rattle.ff_frames.specs.declared.frame.Frame.{Frame}
-use Rattle.ff_lines.specs.DeviceState.{DeviceState, IsPinned, line_at, waits}
+use Rattle.ff_lines.specs.DeviceState.{DeviceState, IsPinned}
 use Rattle.ff_lines.specs.LineMask.{HasEveryLine, has_line}
 use Rattle.ff_lines.specs.Posts.{waits_in}
 use Rattle.ff_lines.proofs.DeviceLines.{line_at-pinned}
 use Rattle.ff_memory.specs.Advances.{IsFinished, finished_by}
-use Rattle.ff_memory.specs.Memory.{MemoryView, entry_at, frame_set, home_at, home_set, numbered, slot_set}
-use Rattle.ff_memory.specs.Places.{Holds, frame_in_flight, line_from, place}
+use Rattle.ff_memory.specs.Memory.{MemoryView, entry_at, home_at, numbered}
+use Rattle.ff_memory.specs.Places.{Holds}
 use Rattle.ff_plb.specs.Plb.{entry_if, entry_of, slot_at}
 use Rattle.ff_plb.specs.declared.slot.Slot.{Slot}
 use Rattle.ff_plb.specs.declared.slot.Way.{Way}
@@ -23,9 +21,8 @@ use Rattle.ff_plb.proofs.Entries.{entry-gone, entry-other, entry_if-other}
 use Rattle.ff_table.specs.declared.table.Home.{Home}
 use Rattle.ff_table.specs.declared.table.Home.TheVariants.{Ssd, Host}
 use Rattle.ff_memory.proofs.FlightMoves.{place-before}
-use Rattle.ff_memory.proofs.Flights.{IsEntryOf, as-coming, as-leaving, entry-is, flies, held-within, page-within}
+use Rattle.ff_memory.proofs.Flights.{IsEntryOf, as-coming, entry-is, flies, held-within, page-within}
 use Rattle.ff_memory.proofs.Lifts.{KeepsLinesOf}
-use Rattle.ff_memory.proofs.Moves.{IsMove}
 use Rattle.ff_memory.proofs.Sites.{SameAt, one-page}
 
 -- a device of which a page was pinned or let go

@@ -1,6 +1,6 @@
 -- If every place is flat over a history and a store was made, every place is flat over the history with its entry.
 use Rattle.std.specs.Prelude.{nat_le, slice_get, unwrap_or}
-use Rattle.std.proofs.Common.{◌≡◌, ◌≢◌, ℕ, ◌+◌, ◌-◌, ◌*◌, ◌/◌, ◌%◌, ◌<◌, ◌≤◌, Bool, true, false, cond, List, [], ◌∷◌, ◌++◌, length, get_or, Option, None, Some, inl, inr, refl, sym, ap, ◌∙◌, arith}
+use Rattle.std.proofs.Common.{◌≡◌, ◌≢◌, ℕ, ◌+◌, ◌-◌, ◌*◌, ◌/◌, ◌%◌, ◌≤◌, true, false, cond, List, [], ◌∷◌, ◌++◌, length, get_or, None, inl, inr, refl, sym, ap, ◌∙◌, arith}
 use Rattle.std.proofs.lemmas.Bool.{cases_eq, cases_lt, le-leb, lt-leb}
 use Rattle.std.proofs.lemmas.Option.{slice_get_past}
 use Rattle.ff_lines.specs.DeviceState.{DeviceState}
@@ -23,7 +23,7 @@ parts a = omega arith
 -- a byte of the line over which a piece was laid
 laid-byte : (line : List ℕ) (from place : ℕ) (piece : List ℕ) (at a : ℕ) → from + length piece ≤ length line → a + from ≡ at + place
     → get_or (overlaid line from piece) place 0
-      ≡ unwrap_or (cond (nat_le at a) (slice_get piece (a - at)) None) (get_or line place 0)
+    ≡ unwrap_or (cond (nat_le at a) (slice_get piece (a - at)) None) (get_or line place 0)
 laid-byte line from place piece at a fits same = elim (cases_lt place from) [
   | inl before ↦
       let first : nat_le from place ≡ false = lt-leb from place before in

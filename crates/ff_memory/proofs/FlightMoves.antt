@@ -1,19 +1,17 @@
 -- A step of a page in flight that leaves it in flight.
-use Rattle.std.specs.Prelude.{is_some}
-use Rattle.std.proofs.Common.{◌≡◌, ◌≢◌, ℕ, ◌<◌, ◌≤◌, Bool, true, false, List, length, get_or, set, Option, None, Some, inl, inr, refl, sym, ap, ◌∙◌, subst, arith}
+use Rattle.std.proofs.Common.{◌≡◌, ◌≢◌, ℕ, ◌<◌, ◌≤◌, Bool, true, false, List, length, set, Option, Some, inl, inr, refl, sym, ap, ◌∙◌, subst}
 use Rattle.std.proofs.lemmas.Bool.{cases_eq}
-use Rattle.std.proofs.lemmas.Option.{none-some, same_Some}
+use Rattle.std.proofs.lemmas.Option.{none-some}
 use Rattle.ff_base.specs.Page.{line_of}
 use Rattle.ff_frames.specs.Frames.{frame_at}
 use Rattle.ff_frames.specs.declared.frame.Frame.{Frame}
 use Rattle.ff_lines.specs.DeviceState.{DeviceState, line_at}
 use Rattle.ff_lines.specs.LineMask.{has_line}
-use Rattle.ff_memory.specs.Located.{IsFlyingBy, IsSited}
+use Rattle.ff_memory.specs.Located.{IsFlyingBy}
 use Rattle.ff_memory.specs.Memory.{MemoryView, entry_at, home_at}
-use Rattle.ff_memory.specs.Places.{Holds, frame_in_flight, frame_of_page, line_from, place}
+use Rattle.ff_memory.specs.Places.{Holds, frame_in_flight, line_from, place}
 use Rattle.ff_plb.specs.Plb.{ArePagesApart, entry_if, entry_of, slot_at}
 use Rattle.ff_plb.specs.declared.slot.Slot.{Slot}
-use Rattle.ff_plb.specs.declared.slot.Way.{Way}
 use Rattle.ff_plb.specs.declared.slot.Way.TheVariants.{Coming, Leaving}
 use Rattle.ff_plb.proofs.Entries.{apart-same, entry-now, entry-other, entry_if-other}
 use Rattle.ff_table.specs.Table.{born_count, is_born, marks_of}

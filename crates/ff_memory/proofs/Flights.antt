@@ -1,5 +1,5 @@
 -- The facts of the page whose entry is in a slot.
-use Rattle.std.proofs.Common.{◌≡◌, ◌≢◌, ℕ, ◌<◌, ◌≤◌, Bool, true, false, List, length, Option, None, Some, inl, inr, refl, sym, ap, ◌∙◌, arith}
+use Rattle.std.proofs.Common.{◌≡◌, ℕ, ◌<◌, List, length, Some, inl, inr, sym, ap, ◌∙◌, arith}
 use Rattle.std.proofs.lemmas.Bool.{cases_lt}
 use Rattle.std.proofs.lemmas.List.{get_or_past}
 use Rattle.std.proofs.lemmas.Option.{none-some}
@@ -7,9 +7,8 @@ use Rattle.ff_frames.specs.Frame.{free_frame}
 use Rattle.ff_frames.specs.Frames.{frame_at}
 use Rattle.ff_frames.specs.declared.frame.Frame.{Frame}
 use Rattle.ff_lines.specs.DeviceState.{DeviceState, HasRoom, IsDevice}
-use Rattle.ff_lines.specs.LineMask.{has_line}
 use Rattle.ff_memory.specs.Advances.{IsReady}
-use Rattle.ff_memory.specs.Located.{IsComing, IsFlyingBy, IsInFlight, IsLeaving, IsLeavingFlight, IsComingFlight, IsLocated}
+use Rattle.ff_memory.specs.Located.{IsComing, IsFlyingBy, IsInFlight, IsLeaving, IsLocated}
 use Rattle.ff_memory.specs.Memory.{IsMemorySound, MemoryView, entry_at, home_at, numbered}
 use Rattle.ff_memory.specs.Places.{Holds}
 use Rattle.ff_plb.specs.Plb.{HasEntry}
@@ -18,7 +17,6 @@ use Rattle.ff_plb.specs.declared.slot.Slot.{Slot}
 use Rattle.ff_plb.specs.declared.slot.Way.{Way}
 use Rattle.ff_plb.specs.declared.slot.Way.TheVariants.{Coming, Leaving}
 use Rattle.ff_plb.proofs.Entries.{entry-at}
-use Rattle.ff_table.specs.Table.{is_born}
 use Rattle.ff_table.specs.declared.table.Home.{Home}
 use Rattle.ff_memory.proofs.Rooms.{born-allowed, has-room}
 

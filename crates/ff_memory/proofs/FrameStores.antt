@@ -1,32 +1,18 @@
 -- A frame after a store, and a store that a frame served.
-use Rattle.std.specs.Prelude.{is_some}
-use Rattle.std.proofs.Common.{◌≡◌, ◌≢◌, ℕ, ◌+◌, ◌<◌, ◌≤◌, ◌==◌, ◌||◌, ◌⊎◌, not, Bool, true, false, List, length, get_or, set, Option, None, Some, inl, inr, refl, sym, ap, ◌∙◌, subst, arith}
-use Rattle.std.proofs.lemmas.Bool.{cases_Bool, cases_eq, eq-eqb, eqb-true, ne_eqb, not-false}
-use Rattle.std.proofs.lemmas.List.{get_or-set_same, get_or-set_other}
-use Rattle.std.proofs.lemmas.Option.{none-some, same_Some}
+use Rattle.std.proofs.Common.{◌≡◌, ◌≢◌, ℕ, ◌+◌, ◌<◌, ◌≤◌, ◌==◌, ◌⊎◌, Bool, true, false, List, length, inl, inr, refl, sym, ap, ◌∙◌, arith}
+use Rattle.std.proofs.lemmas.Bool.{cases_Bool, eqb-true}
 use Rattle.ff_base.specs.Page.{line_of}
 use Rattle.ff_base.proofs.PageLines.{length-line_of, length-with_line, line_of-with_line_same, line_of-with_line_other}
-use Rattle.ff_frames.specs.Frame.{free_frame}
-use Rattle.ff_frames.specs.Frames.{frame_at, with_frame}
+use Rattle.ff_frames.specs.Frames.{frame_at}
 use Rattle.ff_frames.specs.declared.frame.Frame.{Frame}
-use Rattle.ff_lines.specs.DeviceState.{DeviceState, IsDevice, line_at}
+use Rattle.ff_lines.specs.DeviceState.{DeviceState, line_at}
 use Rattle.ff_lines.specs.LineMask.{has_line, mask_with}
 use Rattle.ff_lines.specs.Overlay.{overlaid}
-use Rattle.ff_lines.proofs.DeviceLines.{length-line_at}
 use Rattle.ff_lines.proofs.Overlaid.{length-overlaid}
-use Rattle.ff_memory.specs.Located.{IsAtRest, IsComing, IsFlyingBy, IsLeaving, IsLeavingFlight, IsLocated}
-use Rattle.ff_memory.specs.Memory.{IsMemorySound, MemoryView, entry_at, home_at}
-use Rattle.ff_memory.specs.Places.{Holds, frame_for, frame_in_flight, line_from, place, store_in_flight, storing_frame}
-use Rattle.ff_memory.specs.Stores.{DrainsIf, HitsEntry, IsFrameStore, IsStored, carried_frame, carries, carries_by, is_refused, stored_frame}
-use Rattle.ff_memory.specs.declared.access.Access.{Access}
-use Rattle.ff_plb.specs.Slot.{after_store, flight_after_store, without_line}
-use Rattle.ff_plb.specs.declared.slot.Flight.{Flight}
-use Rattle.ff_plb.specs.declared.slot.Slot.{Slot}
-use Rattle.ff_plb.specs.declared.slot.Way.{Way}
-use Rattle.ff_plb.specs.declared.slot.Way.TheVariants.{Coming, Leaving}
-use Rattle.ff_table.specs.Table.{is_born, with_born}
-use Rattle.ff_table.specs.declared.table.Home.{Home}
-use Rattle.ff_table.specs.declared.table.Home.TheVariants.{Ssd, Host}
+use Rattle.ff_memory.specs.Memory.{MemoryView}
+use Rattle.ff_memory.specs.Places.{frame_in_flight, line_from}
+use Rattle.ff_memory.specs.Stores.{DrainsIf, carried_frame, carries_by, stored_frame}
+use Rattle.ff_plb.specs.declared.slot.Way.TheVariants.{Coming}
 use Rattle.ff_memory.proofs.Alike.{IsLike, like-drained, like-none}
 use Rattle.ff_memory.proofs.Landings.{overlaid-whole}
 use Rattle.ff_memory.proofs.Lifts.{mask-cases, mask-here, mask-more, mask-other}

@@ -1,6 +1,6 @@
 -- A frame that was changed twice, and a store in its parts.
 use Rattle.std.specs.Prelude.{option_map}
-use Rattle.std.proofs.Common.{◌≡◌, ℕ, ◌<◌, List, length, get_or, set, Option, Some, refl, sym, ap, ◌∙◌, subst}
+use Rattle.std.proofs.Common.{◌≡◌, ℕ, ◌<◌, List, length, set, Option, Some, ap, ◌∙◌}
 use Rattle.std.proofs.lemmas.List.{get_or-set_same, set-set}
 use Rattle.ff_frames.specs.Frame.{free_frame}
 use Rattle.ff_frames.specs.Frames.{frame_at, with_frame}
@@ -10,7 +10,7 @@ use Rattle.ff_model.specs.declared.op.Reply.TheVariants.{Done}
 use Rattle.ff_plb.specs.Plb.{slot_at, with_slot}
 use Rattle.ff_plb.specs.Slot.{after_store}
 use Rattle.ff_plb.specs.declared.slot.Slot.{Slot}
-use Rattle.ff_table.specs.Table.{TableView, with_born}
+use Rattle.ff_table.specs.Table.{PageTableView, with_born}
 use Rattle.ff_memory.specs.Advances.{IsReady}
 use Rattle.ff_memory.specs.Memory.{MemoryView, born_set, entry_at, frame_set}
 use Rattle.ff_memory.specs.Stores.{DrainsIf, IsFrameStore, carried_frame, carries, stored_frame}
@@ -44,12 +44,12 @@ stored-in_flight m m1 m2 d d1 slots k s p line from piece access ready page some
     let slots2 : m2.slots ≡ set m.slots k (Some (after_store line s)) =
     ap (λ (n : MemoryView). n.slots) stored ∙ (rw (slots1, ready.has.there) at hit) in
     let pages : (q : ℕ) → q ≡ p → set m.frames s.frame (change (carried_frame (carries (Some s) line (length piece)) line (line_at d q line) (frame_at m.frames s.frame)))
-        ≡ set m.frames s.frame (change (carried_frame (carries (Some s) line (length piece)) line (line_at d p line) (frame_at m.frames s.frame))) =
+    ≡ set m.frames s.frame (change (carried_frame (carries (Some s) line (length piece)) line (line_at d p line) (frame_at m.frames s.frame))) =
     λ q same. ap (λ (i : ℕ). set m.frames s.frame (change (carried_frame (carries (Some s) line (length piece)) line (line_at d i line) (frame_at m.frames s.frame)))) same in
     record {
       access_is = answer;
       frames = rw some (both ∙ pages s.page.0 page);
-      table = ap (λ (n : MemoryView). n.table) stored ∙ ap (λ (t : TableView). with_born p t) table1;
+      table = ap (λ (n : MemoryView). n.table) stored ∙ ap (λ (t : PageTableView). with_born p t) table1;
       slots = rw some (k, ready.has, slots2);
       capacity = ap (λ (n : MemoryView). n.capacity) stored ∙ capacity1;
       device = rw some drained;

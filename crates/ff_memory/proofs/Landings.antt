@@ -1,26 +1,23 @@
 -- A line of a page in flight lands: in its frame, or on the device.
-use Rattle.std.specs.Prelude.{All}
-use Rattle.std.specs.List.{list_any}
-use Rattle.std.proofs.Common.{◌≡◌, ◌≢◌, ℕ, ◌+◌, ◌<◌, ◌≤◌, ◌==◌, ◌||◌, ◌&&◌, not, Bool, true, false, List, [], ◌∷◌, ◌++◌, length, get_or, set, take, drop, Option, None, Some, inl, inr, refl, sym, ap, ◌∙◌, subst, arith, length-append, append_assoc}
-use Rattle.std.proofs.lemmas.Bool.{and_left, and_right, cases_eq, eq-eqb, eqb-true, ne_eqb, or_cases, or_from, or_parts, and_parts, cases_Bool, false_from_ne_true}
-use Rattle.std.proofs.lemmas.List.{get_or-set_same, get_or-set_other, take_all, drop_all}
+use Rattle.std.proofs.Common.{◌≡◌, ◌≢◌, ℕ, ◌<◌, ◌==◌, not, true, false, List, [], ◌∷◌, ◌++◌, length, None, Some, inl, inr, refl, sym, ap, ◌∙◌, arith}
+use Rattle.std.proofs.lemmas.Bool.{and_left, and_right, cases_eq, eq-eqb, eqb-true, ne_eqb, or_cases, or_from, or_parts, and_parts}
+use Rattle.std.proofs.lemmas.List.{get_or-set_same, get_or-set_other, drop_all}
 use Rattle.std.proofs.lemmas.Grind.{common_steps}
-use Rattle.ff_base.specs.Page.{line_of, with_line}
+use Rattle.ff_base.specs.Page.{line_of}
 use Rattle.ff_base.proofs.PageLines.{length-line_of, line_of-with_line_same, line_of-with_line_other}
 use Rattle.ff_frames.specs.Frame.{cleaned_frame, filled_frame, free_frame}
-use Rattle.ff_frames.specs.Frames.{frame_at, with_frame}
+use Rattle.ff_frames.specs.Frames.{frame_at}
 use Rattle.ff_frames.specs.declared.frame.Frame.{Frame}
-use Rattle.ff_lines.specs.DeviceState.{DeviceState, IsPosted, line_at, waits}
-use Rattle.ff_lines.specs.LineMask.{has_line, mask_with, mask_without}
+use Rattle.ff_lines.specs.DeviceState.{DeviceState, IsPosted, line_at}
+use Rattle.ff_lines.specs.LineMask.{has_line}
 use Rattle.ff_lines.specs.Overlay.{overlaid}
-use Rattle.ff_lines.specs.Posts.{is_to, laid_on, waits_in}
+use Rattle.ff_lines.specs.Posts.{is_to, waits_in}
 use Rattle.ff_lines.specs.declared.post.Post.{Post}
 use Rattle.ff_lines.proofs.DeviceLines.{length-line_at, line_at-posted}
 use Rattle.ff_lines.proofs.MaskLines.{has_line-mask_without}
 use Rattle.ff_memory.specs.Advances.{IsLandedInFrame, IsLandedOnDevice}
-use Rattle.ff_memory.specs.Located.{IsComing, IsLeaving}
+use Rattle.ff_memory.specs.Located.{IsLeaving}
 use Rattle.ff_memory.specs.Memory.{MemoryView, frame_set, home_at, slot_set}
-use Rattle.ff_memory.specs.Places.{frame_in_flight, place}
 use Rattle.ff_plb.specs.declared.slot.Flight.{Flight}
 use Rattle.ff_plb.specs.declared.slot.Slot.{Slot}
 use Rattle.ff_plb.specs.declared.slot.Way.{Way}
@@ -29,7 +26,7 @@ use Rattle.ff_table.specs.Table.{is_born}
 use Rattle.ff_table.specs.declared.table.Home.{Home}
 use Rattle.ff_memory.specs.Located.{IsFlyingBy}
 use Rattle.ff_memory.proofs.FlightMoves.{IsFlightStep, coming-line, flight-move, leaving-line, place-after, place-before}
-use Rattle.ff_memory.proofs.Flights.{IsEntryOf, as-coming, as-leaving, flies, held-within, page-within}
+use Rattle.ff_memory.proofs.Flights.{IsEntryOf, as-coming, as-leaving, flies, held-within}
 use Rattle.ff_memory.proofs.Lifts.{KeepsLinesOf, as-flying, landed_entry, landing-is, mask-cases, mask-here, mask-more, mask-other}
 use Rattle.ff_memory.proofs.Sites.{SameAt, same-device}
 

@@ -1,16 +1,16 @@
 -- Steps of a page in flight that change its entry alone: a lift, and a flight that is dropped.
-use Rattle.std.proofs.Common.{◌≡◌, ◌≢◌, ℕ, ◌<◌, ◌==◌, ◌||◌, ◌⊎◌, Bool, true, false, List, length, set, Option, None, Some, inl, inr, refl, sym, ap, ◌∙◌, subst, arith}
-use Rattle.std.proofs.lemmas.Bool.{cases_eq, eq-eqb, ne_eqb, or_cases, eqb-true, or_left, or_right}
+use Rattle.std.proofs.Common.{◌≡◌, ◌≢◌, ℕ, ◌<◌, ◌==◌, ◌⊎◌, Bool, true, false, set, Option, None, Some, inl, inr, refl, sym, ap, ◌∙◌}
+use Rattle.std.proofs.lemmas.Bool.{eq-eqb, ne_eqb, or_cases, eqb-true, or_left, or_right}
 use Rattle.ff_frames.specs.Frames.{frame_at}
 use Rattle.ff_frames.specs.declared.frame.Frame.{Frame}
-use Rattle.ff_lines.specs.DeviceState.{DeviceState, line_at}
+use Rattle.ff_lines.specs.DeviceState.{DeviceState}
 use Rattle.ff_lines.specs.LineMask.{has_line, mask_with}
 use Rattle.ff_lines.specs.declared.line_mask.LineMask.{LineMask}
 use Rattle.ff_lines.proofs.MaskLines.{has_line-mask_with}
 use Rattle.ff_memory.specs.Advances.{IsDropped, IsLifted, LiftsFrom, source_line}
-use Rattle.ff_memory.specs.Located.{IsComing, IsFlyingBy, IsLeaving}
+use Rattle.ff_memory.specs.Located.{IsComing, IsFlyingBy}
 use Rattle.ff_memory.specs.Memory.{MemoryView, home_at, slot_set}
-use Rattle.ff_memory.specs.Places.{SamePlaces, frame_in_flight, place}
+use Rattle.ff_memory.specs.Places.{frame_in_flight, place}
 use Rattle.ff_plb.specs.Slot.{after_landing, after_lift, landed_with}
 use Rattle.ff_plb.specs.declared.slot.Flight.{Flight}
 use Rattle.ff_plb.specs.declared.slot.Slot.{Slot}
@@ -21,7 +21,7 @@ use Rattle.ff_memory.proofs.Alike.{IsLike, like-drained, like-none, line-like}
 use Rattle.ff_memory.proofs.FlightMoves.{IsFlightStep, coming-line, flight-move, place-after, place-before}
 use Rattle.ff_memory.proofs.Flights.{IsEntryOf, as-coming, entry-is, flies}
 use Rattle.ff_memory.proofs.Moves.{IsMove}
-use Rattle.ff_memory.proofs.Sites.{alike-same, flying-other, same-device}
+use Rattle.ff_memory.proofs.Sites.{alike-same, flying-other}
 
 -- a page moves, and its lines stay
 pub record KeepsLinesOf (p f : ℕ) (m : MemoryView) (d : DeviceState) (m' : MemoryView) (d' : DeviceState) : Type 0 where

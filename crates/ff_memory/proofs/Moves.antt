@@ -1,19 +1,17 @@
 -- One page and one frame change: the facts and the lines of all others stay.
 use Rattle.std.specs.Prelude.{is_some}
-use Rattle.std.proofs.Common.{◌≡◌, ◌≢◌, ℕ, ◌<◌, ◌≤◌, Bool, true, false, List, length, Option, None, Some, inl, inr, refl, sym, ap, ◌∙◌, subst}
+use Rattle.std.proofs.Common.{◌≡◌, ◌≢◌, ℕ, ◌<◌, ◌≤◌, true, length, Option, None, Some, inl, inr, refl, sym, ap, ◌∙◌}
 use Rattle.std.proofs.lemmas.Bool.{cases_eq}
 use Rattle.ff_base.specs.Page.{line_of}
 use Rattle.ff_frames.specs.Frames.{frame_at}
 use Rattle.ff_frames.specs.declared.frame.Frame.{Frame}
-use Rattle.ff_lines.specs.DeviceState.{DeviceState, line_at}
+use Rattle.ff_lines.specs.DeviceState.{DeviceState}
 use Rattle.ff_lines.specs.LineMask.{has_line}
-use Rattle.ff_memory.specs.Located.{IsAccounted, IsLocated, IsSited}
+use Rattle.ff_memory.specs.Located.{IsLocated, IsSited}
 use Rattle.ff_memory.specs.Memory.{MemoryView, entry_at, home_at}
-use Rattle.ff_memory.specs.Places.{Holds, SamePlaces, frame_for, frame_of_page, line_from, place, serving_frame}
-use Rattle.ff_plb.specs.declared.slot.Slot.{Slot}
+use Rattle.ff_memory.specs.Places.{Holds, SamePlaces, frame_of_page, line_from, place, serving_frame}
 use Rattle.ff_table.specs.Table.{born_count, is_born, marks_of}
-use Rattle.ff_table.specs.declared.table.Home.{Home}
-use Rattle.ff_memory.proofs.Sites.{IsAlike, SameAt, alike-same, serving-holds, sited-other}
+use Rattle.ff_memory.proofs.Sites.{SameAt, alike-same, serving-holds, sited-other}
 
 -- one page and one frame change, and the page's own facts hold again
 pub record IsMove (p f : ℕ) (m : MemoryView) (d : DeviceState) (m' : MemoryView) (d' : DeviceState) : Type 0 where

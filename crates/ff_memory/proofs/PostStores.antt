@@ -1,24 +1,17 @@
 -- A store that is posted keeps the facts, and changes its line alone; and every store does what its answer says.
-use Rattle.std.specs.Prelude.{is_some}
-use Rattle.std.proofs.Common.{◌≡◌, ◌≢◌, ℕ, ◌+◌, ◌<◌, ◌≤◌, ◌==◌, Bool, true, false, List, length, Option, None, Some, inl, inr, refl, sym, ap, ◌∙◌, subst, arith}
-use Rattle.std.proofs.lemmas.Bool.{cases_eq, or_cases, or_from, and_right, eqb-true}
+use Rattle.std.proofs.Common.{◌≡◌, ℕ, Bool, true, false, List, length, Option, None, Some, refl, sym, ap, ◌∙◌, arith}
 use Rattle.std.proofs.lemmas.Option.{none-some, same_Some}
-use Rattle.ff_base.specs.Page.{line_of}
 use Rattle.ff_frames.specs.Frames.{frame_at}
 use Rattle.ff_frames.specs.declared.frame.Frame.{Frame}
 use Rattle.ff_lines.specs.DeviceState.{DeviceState, IsPosted, line_at}
 use Rattle.ff_lines.specs.LineMask.{has_line}
 use Rattle.ff_lines.specs.Overlay.{overlaid}
 use Rattle.ff_lines.specs.declared.post.Post.{Post}
-use Rattle.ff_model.specs.declared.op.Reply.TheVariants.{Done, Full}
-use Rattle.ff_memory.specs.Loads.{IsMissed}
 use Rattle.ff_memory.specs.Located.{IsFlyingBy, IsLocated, IsSited}
-use Rattle.ff_memory.specs.Memory.{IsMemorySound, MemoryView, born_set, entry_at, home_at, numbered}
-use Rattle.ff_memory.specs.Places.{Holds, SamePlaces, frame_for, frame_in_flight, line_from, place, serving_frame, store_frame_for, store_in_flight, storing_frame}
-use Rattle.ff_memory.specs.Stores.{IsDeviceStore, IsFrameStore, IsRefused, IsStoreBy, IsStoreGiven, IsStored, StoresBy, is_refused}
+use Rattle.ff_memory.specs.Memory.{MemoryView, born_set, entry_at, home_at, numbered}
+use Rattle.ff_memory.specs.Places.{Holds, frame_for, frame_in_flight, line_from, serving_frame, store_frame_for, store_in_flight, storing_frame}
+use Rattle.ff_memory.specs.Stores.{IsFrameStore, IsStoreBy, IsStoreGiven, StoresBy}
 use Rattle.ff_memory.specs.declared.access.Access.{Access}
-use Rattle.ff_memory.specs.declared.access.Access.TheVariants.{Served, Miss}
-use Rattle.ff_memory.specs.declared.access.Side.TheVariants.{Device, Host as Frame_side, Neither}
 use Rattle.ff_plb.specs.declared.slot.Slot.{Slot}
 use Rattle.ff_plb.specs.declared.slot.Way.{Way}
 use Rattle.ff_plb.specs.declared.slot.Way.TheVariants.{Coming, Leaving}

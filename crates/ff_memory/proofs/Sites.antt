@@ -1,6 +1,6 @@
 -- The facts of a page whose frame and whose part of the device stay.
-use Rattle.std.specs.Prelude.{IfSome, is_some}
-use Rattle.std.proofs.Common.{◌≡◌, ◌≢◌, ℕ, ◌<◌, Bool, true, false, List, length, get_or, Option, None, Some, ◌⊎◌, inl, inr, refl, sym, ap, ◌∙◌, arith}
+use Rattle.std.specs.Prelude.{is_some}
+use Rattle.std.proofs.Common.{◌≡◌, ℕ, Bool, true, false, List, Option, None, Some, refl, sym, ap, ◌∙◌}
 use Rattle.std.proofs.lemmas.Option.{none-some, same_Some}
 use Rattle.ff_base.specs.Page.{line_of}
 use Rattle.ff_base.specs.declared.numbers.PageNo.{PageNo}
@@ -9,7 +9,7 @@ use Rattle.ff_frames.specs.declared.frame.Frame.{Frame}
 use Rattle.ff_lines.specs.DeviceState.{DeviceState, line_at, waits}
 use Rattle.ff_lines.specs.LineMask.{has_line}
 use Rattle.ff_lines.specs.declared.line_mask.LineMask.{LineMask}
-use Rattle.ff_memory.specs.Located.{IsClean, IsComing, IsComingFlight, IsFlyingBy, IsInFlight, IsLeaving, IsLeavingFlight, IsLocated, IsSited}
+use Rattle.ff_memory.specs.Located.{IsClean, IsComingFlight, IsFlyingBy, IsLeavingFlight, IsLocated, IsSited}
 use Rattle.ff_memory.specs.Memory.{MemoryView, entry_at, home_at, numbered}
 use Rattle.ff_memory.specs.Places.{Holds, frame_for, frame_in_flight, frame_of_page, serving_frame}
 use Rattle.ff_plb.specs.declared.slot.Flight.{Flight}

@@ -1,6 +1,6 @@
 -- A span's page is one of the pages.
 use Rattle.std.specs.Prelude.{IsTrue}
-use Rattle.std.proofs.Common.{◌≡◌, ℕ, ◌+◌, ◌*◌, ◌/◌, ◌<◌, ◌≤◌, arith}
+use Rattle.std.proofs.Common.{ℕ, ◌/◌, ◌<◌, arith}
 use Rattle.ff_model.specs.Spans.{is_span}
 use Rattle.ff_model.proofs.Replies.{span_some, span_within}
 

@@ -1,5 +1,5 @@
 -- Every step of a page in flight keeps the facts and every line.
-use Rattle.std.proofs.Common.{◌≡◌, ℕ, ◌<◌, Bool, true, false, Option, None, Some, refl, sym, ap, ◌∙◌}
+use Rattle.std.proofs.Common.{◌≡◌, ℕ, Bool, true, false, Option, None, Some, refl}
 use Rattle.ff_lines.specs.DeviceState.{DeviceState}
 use Rattle.ff_lines.specs.LineMask.{has_line}
 use Rattle.ff_memory.specs.Advances.{AdvancesBy, FinishesOrLifts, LandsBy}

@@ -1,24 +1,22 @@
 -- What the core needs beside the calls' contracts: a step of work keeps the facts and the lines, and a fresh memory over a
 -- device in which nothing is pinned or written meets the facts.
-use Rattle.std.specs.Prelude.{is_some, replicate}
-use Rattle.std.proofs.Common.{◌≡◌, ◌≢◌, ℕ, ◌<◌, ◌≤◌, Bool, true, false, cond, List, [], ◌∷◌, length, get_or, Option, None, Some, inl, inr, refl, sym, ap, ◌∙◌, arith}
+use Rattle.std.specs.Prelude.{replicate}
+use Rattle.std.proofs.Common.{◌≡◌, ℕ, Bool, false, cond, List, get_or, Option, None, inl, inr, refl, sym, ap, ◌∙◌, arith}
 use Rattle.std.proofs.lemmas.Bool.{cases_lt}
 use Rattle.std.proofs.lemmas.List.{get_or-replicate, get_or_past, length-replicate}
 use Rattle.std.proofs.lemmas.List.Folds.{sum_by-replicate}
 use Rattle.std.proofs.lemmas.Option.{none-some}
-use Rattle.ff_frames.specs.Frame.{free_frame}
 use Rattle.ff_frames.specs.declared.frame.Frame.{Frame}
 use Rattle.ff_frames.proofs.FreshFrames.{frame_at-fresh}
 use Rattle.ff_lines.specs.DeviceState.{DeviceState}
 use Rattle.ff_lines.specs.Works.{KeepsLines}
-use Rattle.ff_memory.specs.Located.{IsLocated, IsSited}
+use Rattle.ff_memory.specs.Located.{IsLocated}
 use Rattle.ff_memory.specs.Memory.{MemoryView, entry_at, fresh_memory, home_at, numbered}
-use Rattle.ff_memory.specs.Places.{Holds, SamePlaces, frame_of_page}
+use Rattle.ff_memory.specs.Places.{Holds, SamePlaces}
 use Rattle.ff_plb.specs.Plb.{entry_of, slot_at}
 use Rattle.ff_plb.specs.declared.slot.Slot.{Slot}
 use Rattle.ff_plb.proofs.Finding.{none-found}
 use Rattle.ff_plb.specs.Plb.{entry_if}
-use Rattle.ff_table.specs.declared.table.Home.{Home}
 use Rattle.ff_table.specs.declared.table.Home.TheVariants.{Ssd}
 use Rattle.ff_memory.proofs.Alike.{like-located, like-places, like-worked}
 

@@ -1,5 +1,5 @@
 -- When a page may begin to move, and what that does.
-use Rattle.std.specs.Prelude.{ℕ, ◌≡◌, ◌<◌, true, List, length, Option, Some, None}
+use Rattle.std.specs.Prelude.{ℕ, ◌≡◌, ◌<◌, true, length, Option, Some, None}
 use Rattle.ff_frames.specs.Frame.{taken_frame}
 use Rattle.ff_frames.specs.Frames.{IsLeastFree, IsNoneFree, frame_at}
 use Rattle.ff_lines.specs.DeviceState.{DeviceState, IsDrained, IsPinned}

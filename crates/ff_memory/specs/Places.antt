@@ -1,5 +1,5 @@
 -- Where each line of each page is, and which side serves it.
-use Rattle.std.specs.Prelude.{ℕ, ◌≡◌, ◌<◌, ◌/◌, ◌%◌, Bool, true, false, List, Option, Some, None, if◌then◌else◌, is_none, slice_index}
+use Rattle.std.specs.Prelude.{ℕ, ◌≡◌, ◌<◌, ◌/◌, ◌%◌, Bool, List, Option, Some, None, if◌then◌else◌, is_none, slice_index}
 use Rattle.ff_base.specs.Page.{line_of}
 use Rattle.ff_frames.specs.Frames.{frame_at}
 use Rattle.ff_frames.specs.declared.frame.Frame.{Frame}

@@ -18,7 +18,7 @@ use Rattle.ff_memory.specs.Located.{IsLocated}
 use Rattle.ff_memory.specs.Memory.{IsMemorySound, MemoryView, born_set, entry_at, numbered}
 use Rattle.ff_memory.specs.Places.{SamePlaces, place, storing_frame}
 use Rattle.ff_memory.specs.declared.access.Access.{Access}
-use Rattle.ff_memory.specs.declared.access.Access.TheVariants.{Served, Miss}
+use Rattle.ff_memory.specs.declared.access.Access.TheVariants.{Served}
 use Rattle.ff_memory.specs.declared.access.Side.TheVariants.{Device, Host, Neither}
 
 -- a store to the page is refused: it isn't born, and as many pages as may be are

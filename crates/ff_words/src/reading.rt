@@ -1,9 +1,12 @@
 // Reads the words of the command line.
-ghost use Rattle.std.specs.Prelude.{◌≡◌, [], IfOk, IfErr, MatchOption, Some, codes, map, string_bytes};
-ghost use Rattle.clap.specs.Words.{fault_of, found_of, kind_of, one_of, rows_of, subcommand_of, subcommand_rows_of};
+ghost use Rattle.std.specs.Prelude.{◌≡◌, [], IfOk, IfErr, MatchOption, Some};
+ghost use Rattle.std.specs.Prelude.{codes, map, string_bytes};
+ghost use Rattle.clap.specs.Words.{fault_of, found_of, kind_of, one_of, rows_of};
+ghost use Rattle.clap.specs.Words.{subcommand_of, subcommand_rows_of};
 ghost use Rattle.clap.specs.declared.error.kind.ErrorKind.TheVariants as kind;
 ghost use Rattle.ff_words.specs.CommandLine.{flatflash};
-ghost use Rattle.ff_words.specs.Words.{AreRefused, AskFor, HasNoNumber, HasNumber, IsEntered, IsNoCommand};
+ghost use Rattle.ff_words.specs.Words.{AreRefused, AskFor, HasNoNumber, HasNumber};
+ghost use Rattle.ff_words.specs.Words.{IsEntered, IsNoCommand};
 
 use crate::asked::{BadWords, Command};
 use crate::parser::parser;
@@ -11,8 +14,9 @@ use clap::error::ErrorKind;
 use clap::{ArgMatches, Error};
 use std::alloc::Global;
 
-/// Reads the words of the command line, of which the first is the program's name. What they mean is what `clap`
-/// states of a command with the three subcommands.
+/// Reads the words of the command line, of which the first is the program's name. What they mean
+/// is what `clap` states of a command with the three subcommands. `Usage` comes where `clap`
+/// refuses the words.
 pub fn command(alloc: Global, words: &[String]) -> Result<Command, BadWords>
     ensures ok { IfOk result (AskFor (map string_bytes words.now)) }
     ensures refused { IfErr result (λ cause. cause ≡ BadWords.Usage

@@ -155,9 +155,11 @@ fn drive_row(core: &mut Core, numbers: &mut [u32], row: &Row)
     requires size { length numbers.old ≡ 64 }
     requires few { slice_index numbers.old (row_caller row.now) < most_rows }
     requires room { 0 < core.old.spare_calls }
-    ensures core { core.new ≡ after_row core.old (slice_index numbers.old (row_caller row.now)) row.now }
+    ensures core { core.new
+        ≡ after_row core.old (slice_index numbers.old (row_caller row.now)) row.now }
     ensures numbers { numbers.new
-        ≡ slice_set numbers.old (row_caller row.now) (slice_index numbers.old (row_caller row.now) + 1) }
+        ≡ slice_set numbers.old (row_caller row.now)
+        (slice_index numbers.old (row_caller row.now) + 1) }
 {
     match row {
         Row::Call { caller, op } => {

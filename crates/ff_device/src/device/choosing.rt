@@ -58,7 +58,7 @@ impl<S: Store> Device<S> {
     }
 
     // The slot of the page's set that gives way, for which the values may be raised.
-    pub fn choose(&mut self, page: PageNo) -> Option<u32>
+    pub(super) fn choose(&mut self, page: PageNo) -> Option<u32>
         ensures told { MatchOption result
             (chosen_way (parts_of S.seen self.old) page.0 ≡ None)
             (λ slot. IsRaised page.0 slot (parts_of S.seen self.old) (parts_of S.seen self.new)) }
@@ -73,7 +73,7 @@ impl<S: Store> Device<S> {
     }
 
     // Whether a way of the page's set isn't pinned.
-    pub fn has_unpinned(&self, page: PageNo) -> bool
+    pub(super) fn has_unpinned(&self, page: PageNo) -> bool
         ensures some { result ≡ true → HasUnpinned page.0 (parts_of S.seen self.now) }
         ensures none { result ≡ false → (way : ℕ) → way < self.now.cache.ways
             → (way_at self.now.cache page.0 way).pinned ≡ true }
@@ -88,7 +88,7 @@ impl<S: Store> Device<S> {
     }
 
     // The page in the least way of a full set.
-    pub fn first_page(&self, page: PageNo) -> PageNo
+    pub(super) fn first_page(&self, page: PageNo) -> PageNo
         requires { is_full_set self.now.cache page.0 ≡ true }
         ensures { (way_at self.now.cache page.0 0).page ≡ Some result }
     {

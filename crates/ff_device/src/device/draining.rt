@@ -28,7 +28,7 @@ impl<S: Store> Device<S> {
 
     // Drains so many of the oldest posts.
     #[tactic(auto, using(crate::proofs::Drained::drains_more, crate::proofs::Drained::drains_none, crate::proofs::Drained::frames_more, crate::proofs::Drained::frames_same))]
-    pub fn drain_first(&mut self, count: u32)
+    pub(super) fn drain_first(&mut self, count: u32)
         ensures drained { DrainsFirst count (lines_in S.seen self.old) (lines_in S.seen self.new) }
         ensures store { self.new.store ≡ self.old.store }
         ensures frames { SameFrames self.old.cache self.new.cache }
@@ -41,7 +41,7 @@ impl<S: Store> Device<S> {
 
     // Drains every post.
     #[tactic(auto, using(crate::proofs::Drained::drains_all))]
-    pub fn drain_window(&mut self)
+    pub(super) fn drain_window(&mut self)
         ensures drained { IsDrained (lines_in S.seen self.old) (lines_in S.seen self.new) }
         ensures store { self.new.store ≡ self.old.store }
         ensures frames { SameFrames self.old.cache self.new.cache }

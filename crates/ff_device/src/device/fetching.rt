@@ -14,7 +14,7 @@ use ff_flash::FlashStop;
 use ff_lines::Work;
 
 impl<S: Store> Device<S> {
-    pub fn fetch_into(&mut self, page: PageNo, slot: u32) -> Work
+    pub(super) fn fetch_into(&mut self, page: PageNo, slot: u32) -> Work
         requires page { page.0 < length (S.seen self.old.store).pages }
         requires used { (S.seen self.old.store).used < 2 ^ 63 }
         requires idle { (S.seen self.old.store).pending ≡ None }

@@ -14,7 +14,7 @@ use ff_lines::Work;
 
 impl<S: Store> Device<S> {
     // Seals the flush that waits.
-    pub fn seal(&mut self) -> Work
+    pub(super) fn seal(&mut self) -> Work
         requires pending { IsSome (S.seen self.old.store).pending }
         requires used { (S.seen self.old.store).used < 2 ^ 63 }
         ensures row { SealRow result (parts_of S.seen self.old) (parts_of S.seen self.new) }
@@ -37,7 +37,7 @@ impl<S: Store> Device<S> {
     }
 
     // Makes a step of the flush of a dirty slot, which holds the page.
-    pub fn flush_page(&mut self, slot: u32, page: PageNo) -> Work
+    fn flush_page(&mut self, slot: u32, page: PageNo) -> Work
         requires idle { (S.seen self.old.store).pending ≡ None }
         requires used { (S.seen self.old.store).used < 2 ^ 63 }
         requires slot { slot < length self.old.cache.slots }
@@ -63,7 +63,7 @@ impl<S: Store> Device<S> {
     }
 
     // Makes a step of the flush of a dirty slot.
-    pub fn flush(&mut self, slot: u32) -> Work
+    pub(super) fn flush(&mut self, slot: u32) -> Work
         requires idle { (S.seen self.old.store).pending ≡ None }
         requires used { (S.seen self.old.store).used < 2 ^ 63 }
         requires slot { slot < length self.old.cache.slots }

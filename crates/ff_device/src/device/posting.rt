@@ -14,7 +14,7 @@ use ff_lines::Post;
 impl<S: Store> Device<S> {
     // The cached line of a page.
     #[tactic(auto, using(crate::proofs::Touching::hit_told, crate::proofs::Touching::cached_line))]
-    pub fn read_cached(&mut self, page: PageNo, line: u8, hit: bool) -> [u8; LINE_BYTES]
+    pub(super) fn read_cached(&mut self, page: PageNo, line: u8, hit: bool) -> [u8; LINE_BYTES]
         requires resident { is_resident (parts_of S.seen self.old) page.0 ≡ true }
         requires line { line < 64 }
         ensures bytes { result ≡ line_below (parts_of S.seen self.old) page.0 line }
@@ -34,7 +34,7 @@ impl<S: Store> Device<S> {
 
     // Where it is a hit, the page was used again.
     #[tactic(auto, using(crate::proofs::Touching::hit_told))]
-    pub fn touch(&mut self, page: PageNo, hit: bool)
+    pub(super) fn touch(&mut self, page: PageNo, hit: bool)
         requires resident { is_resident (parts_of S.seen self.old) page.0 ≡ true }
         ensures hit { HitIf hit page.0 self.old.cache self.new.cache.values }
         ensures same { self.new ≡ record self.old {
@@ -49,7 +49,7 @@ impl<S: Store> Device<S> {
 
     // Drains the oldest post where the window is full.
     #[tactic(auto, using(crate::proofs::Drained::drains_none, crate::proofs::Drained::frames_same))]
-    pub fn make_room(&mut self)
+    pub(super) fn make_room(&mut self)
         ensures drained { DrainsFirst (if length self.old.window.posts == self.old.window.room then 1 else 0)
             (lines_in S.seen self.old) (lines_in S.seen self.new) }
         ensures room { length self.new.window.posts < self.new.window.room }
@@ -63,7 +63,7 @@ impl<S: Store> Device<S> {
 
     // Puts a post last.
     #[tactic(auto, using(crate::proofs::Lines::posted_sound))]
-    pub fn put_last(&mut self, post: Post)
+    pub(super) fn put_last(&mut self, post: Post)
         requires resident { is_resident (parts_of S.seen self.old) post.page.0 ≡ true }
         requires post { IsPost post }
         requires free { length self.old.window.posts < self.old.window.room }

@@ -96,7 +96,7 @@ impl<S: Store> Device<S> {
 
     // Whether a flush is to be sealed.
     #[tactic(auto, using(crate::proofs::Working::pending_some))]
-    pub fn is_pending(&self) -> bool
+    pub(super) fn is_pending(&self) -> bool
         ensures { result ≡ is_some (S.seen self.now.store).pending }
     {
         self.store.pending().is_some()
@@ -120,7 +120,7 @@ impl<S: Store> Device<S> {
     }
 
     // What the sound parts of a device are, for the prover alone.
-    pub fn parts_known(&self)
+    pub(super) fn parts_known(&self)
         ensures sound { IsDeviceSound (parts_of S.seen self.now) }
         ensures cache { IsCacheSound self.now.cache }
         ensures store { IsStoreViewSound (S.seen self.now.store) }
@@ -131,7 +131,7 @@ impl<S: Store> Device<S> {
 
     // A step for a page that isn't resident, with the power on.
     #[tactic(auto, using(crate::proofs::Working::absent_of))]
-    pub fn work_for(&mut self, page: PageNo) -> Work
+    pub(super) fn work_for(&mut self, page: PageNo) -> Work
         requires page { page.0 < length (S.seen self.old.store).pages }
         requires used { (S.seen self.old.store).used < 2 ^ 63 }
         requires absent { (lines_in S.seen self.old).resident page.0 ≡ false }

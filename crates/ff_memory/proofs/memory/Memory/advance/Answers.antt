@@ -1,7 +1,7 @@
 use Rattle.std.proofs.Common.{subst}
 use Rattle.ff_memory.specs.Memory.{MemoryView}
 use Rattle.ff_plb.specs.Plb.{HasEntry}
-use Rattle.ff_memory.proofs.Flights.{IsEntryOf, entry-ready}
+use Rattle.ff_memory.proofs.Flights.{entry-ready}
 use Rattle.ff_memory.proofs.Steps.{advanced-located, advanced-places}
 use Rattle.ff_memory.proofs.memory.Memory.advance.Goals as goal
 

@@ -1,5 +1,4 @@
 use Rattle.ff_memory.proofs.Begins.{promoted-keeps}
-use Rattle.ff_memory.proofs.Lifts.{KeepsLinesOf}
 use Rattle.ff_memory.proofs.Moves.{move-located, move-places}
 use Rattle.ff_memory.proofs.memory.Memory.begin_promote.Goals as goal
 

@@ -1,7 +1,5 @@
 use Rattle.ff_memory.proofs.Alike.{like-located, like-places}
-use Rattle.ff_memory.proofs.Flat.{flat-stored}
 use Rattle.ff_memory.proofs.Unreferred.{unreferred-like}
-use Rattle.ff_memory.proofs.Worked.{located-worked}
 use Rattle.ff_memory.proofs.memory.Memory.clear_referred.Goals as goal
 
 pub returns-then-from-to-clause-located : goal.returns-then-from-to-clause-located

@@ -19,7 +19,7 @@ store_allowed-requires g c = record {
 
 keeps : (g : Over) (c : goal.After-store_allowed g)
     → KeepsStore c.store_allowed.result c.of-at.result.page.0 c.of-at.result.line c.of-at.result.from c.args.bytes.now c.args.self.now
-      (g.D.LineDevice.state c.args.d.now) c.store_allowed.new.self (g.D.LineDevice.state c.store_allowed.new.d)
+    (g.D.LineDevice.state c.args.d.now) c.store_allowed.new.self (g.D.LineDevice.state c.store_allowed.new.d)
 keeps g c =
     let given : IsStoreGiven c.of-at.result.page.0 c.of-at.result.line c.of-at.result.from c.args.bytes.now c.args.self.now (g.D.LineDevice.state c.args.d.now) =
     record {

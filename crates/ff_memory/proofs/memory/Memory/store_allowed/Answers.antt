@@ -1,5 +1,4 @@
 use Rattle.ff_memory.proofs.Flights.{entry-ready}
-use Rattle.ff_memory.proofs.PostStores.{store-keeps}
 use Rattle.ff_memory.proofs.Rooms.{has-room}
 use Rattle.ff_memory.proofs.memory.Memory.store_allowed.Goals as goal
 

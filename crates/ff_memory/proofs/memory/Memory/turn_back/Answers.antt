@@ -1,15 +1,13 @@
-use Rattle.std.proofs.Common.{◌≡◌, ℕ, ◌<◌, not, sym, ap, ◌∙◌, subst}
+use Rattle.std.proofs.Common.{◌≡◌, sym, ap, ◌∙◌, subst}
 use Rattle.std.proofs.lemmas.Option.{same_Some}
 use Rattle.ff_frames.specs.Frames.{frame_at}
 use Rattle.ff_lines.specs.DeviceState.{DeviceState, IsDevice}
-use Rattle.ff_lines.specs.LineMask.{has_line, mask_others}
 use Rattle.ff_memory.specs.Located.{IsLocated}
 use Rattle.ff_memory.specs.Memory.{MemoryView}
 use Rattle.ff_plb.specs.Plb.{HasEntry}
 use Rattle.ff_plb.specs.declared.slot.Slot.{Slot}
 use Rattle.ff_plb.specs.declared.slot.Way.TheVariants.{Coming}
 use Rattle.ff_memory.proofs.Begins.{turned-keeps}
-use Rattle.ff_memory.proofs.Flights.{IsEntryOf}
 use Rattle.ff_memory.proofs.Lifts.{KeepsLinesOf}
 use Rattle.ff_memory.proofs.Moves.{move-located, move-places}
 use Rattle.ff_memory.proofs.memory.Memory.turn_back.Goals as goal

@@ -1,6 +1,5 @@
-use Rattle.std.proofs.Common.{◌≡◌, ◌<◌, ◌≤◌, List, length, refl, sym, ap, arith}
+use Rattle.std.proofs.Common.{◌≡◌, ◌<◌, List, length, ap, arith}
 use Rattle.ff_frames.specs.declared.frame.Frame.{Frame}
-use Rattle.ff_memory.specs.Marking.{IsUnreferred, is_between}
 use Rattle.ff_memory.specs.Memory.{MemoryView}
 use Rattle.ff_memory.specs.MemoryFields.{view_of}
 use Rattle.ff_memory.proofs.Unreferred.{unreferred-more, unreferred-none}
