@@ -69,7 +69,8 @@ fn may_follow(opening: &Start, before: &[Entry], entry: &Entry) -> bool
 }
 
 fn is_reply(opening: &Start, before: &[Entry], entry: &Entry) -> bool
-    ensures { IsTrue result ↔ ((entry.now.reply ≡ due_reply (opening_in opening.now) before.now entry.now.event entry.now.op)
+    ensures { IsTrue result ↔ ((entry.now.reply
+        ≡ due_reply (opening_in opening.now) before.now entry.now.event entry.now.op)
         ⊎ IsFault (opening_in opening.now) before.now entry.now) }
 {
     let due = due_reply(opening, before, entry.event, &entry.op);
@@ -80,7 +81,8 @@ fn is_reply(opening: &Start, before: &[Entry], entry: &Entry) -> bool
 }
 
 fn is_fault(opening: &Start, before: &[Entry], entry: &Entry, due: &Reply) -> bool
-    requires { due.now ≡ due_reply (opening_in opening.now) before.now entry.now.event entry.now.op }
+    requires { due.now
+        ≡ due_reply (opening_in opening.now) before.now entry.now.event entry.now.op }
     ensures { IsTrue result ↔ IsFault (opening_in opening.now) before.now entry.now }
 {
     entry.reply == Reply::Fault
