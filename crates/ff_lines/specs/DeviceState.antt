@@ -29,6 +29,8 @@ pub record DeviceState : Type 0 where
   pub steps : ℕ → ℕ
   -- the most steps that a page may take
   pub most_steps : ℕ
+  -- how many posts may wait
+  pub most_posts : ℕ
 
 -- the bytes of a line: the waiting posts over the line below them
 abbrev pub line_at : DeviceState → ℕ → ℕ → List ℕ
@@ -52,12 +54,14 @@ pub record IsDevice (d : DeviceState) : Type 0 where
   pub few : count_below d.written d.pages ≤ d.room
   pub zero_steps : (page : ℕ) → (d.steps page ≡ 0) ↔ (d.resident page ≡ true)
   pub few_steps : (page : ℕ) → d.steps page ≤ d.most_steps
+  pub few_posts : length d.posts ≤ d.most_posts
 
 -- what no call changes
 pub record SameSizes (old new : DeviceState) : Type 0 where
   pub pages : new.pages ≡ old.pages
   pub room : new.room ≡ old.room
   pub most_steps : new.most_steps ≡ old.most_steps
+  pub most_posts : new.most_posts ≡ old.most_posts
 
 -- what no call but work changes
 pub record SameResidence (old new : DeviceState) : Type 0 where

@@ -26,6 +26,10 @@ few_steps : (b : Bool) → (if b then 0 else 1) ≤ 1
 few_steps true = omega arith
 few_steps false = omega arith
 
+few_posts : (post : Option Post) → length (option_to_list post) ≤ 1
+few_posts None = omega arith
+few_posts (Some post) = omega arith
+
 -- a page past the last is fresh
 pinned_within : (plain : PlainView) (page : ℕ) → (page_at plain.pages page).pinned ≡ true → nat_lt page (length plain.pages) ≡ true
 pinned_within plain page pinned = elim (cases_lt page (length plain.pages)) [
@@ -47,6 +51,7 @@ plain_device plain is = record {
   few = count_below-most (λ page. (page_at plain.pages page).written) (length plain.pages);
   zero_steps = λ page. resident_steps (nat_lt page (length plain.pages));
   few_steps = λ page. few_steps (nat_lt page (length plain.pages));
+  few_posts = few_posts plain.post;
 }
 
 -- a new device is one
@@ -91,7 +96,7 @@ same_residence : (plain : PlainView) (k : ℕ) (page : PlainPage) (post : Option
 same_residence plain k page post =
     let count : length (set plain.pages k page) ≡ length plain.pages = length-set plain.pages k page in
     record {
-      sizes = record { pages = count; room = count; most_steps = refl };
+      sizes = record { pages = count; room = count; most_steps = refl; most_posts = refl };
       resident = λ q. ap (λ (n : ℕ). nat_lt q n) count;
       on = refl;
       used = refl;
@@ -122,7 +127,7 @@ drained_by plain None none is = record {
   pinned = λ page. refl;
   written = λ page. refl;
   residence = record {
-    sizes = record { pages = refl; room = refl; most_steps = refl };
+    sizes = record { pages = refl; room = refl; most_steps = refl; most_posts = refl };
     resident = λ page. refl;
     on = refl;
     used = refl;
@@ -203,10 +208,6 @@ posted_plain plain post within held is =
       waiting = λ q waits. rw (waits_for post q waits, length-set plain.pages post.page.0 page) within;
     }
 
-few_posts : (post : Option Post) → length (option_to_list post) ≤ 1
-few_posts None = omega arith
-few_posts (Some post) = omega arith
-
 -- what a post does, after what waited was drained
 pub posted_device : (plain : PlainView) (post : Post) → post.page.0 < length plain.pages → IsPlain plain
     → IsPosted post (state_of plain) (state_of (posted_view post (drained_view plain)))
@@ -235,6 +236,7 @@ posted_device plain post within is =
           pages = marked.sizes.pages ∙ d.residence.sizes.pages;
           room = marked.sizes.room ∙ d.residence.sizes.room;
           most_steps = refl;
+          most_posts = refl;
         };
         resident = λ q. marked.resident q ∙ d.residence.resident q;
         on = refl;

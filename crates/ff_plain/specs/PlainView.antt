@@ -71,4 +71,5 @@ state_of plain = record {
   faults = 0;
   steps = λ page. if nat_lt page (length plain.pages) then 0 else 1;
   most_steps = 1;
+  most_posts = 1;
 }
