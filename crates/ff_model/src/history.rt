@@ -1,5 +1,5 @@
 // The answered calls of a session.
-ghost use Rattle.std.specs.Prelude.{◌≡◌, ◌<◌, ◌++◌, ◌∷◌, [], IfOk, IsTrue, ◌↔◌, length};
+ghost use Rattle.std.specs.Prelude.{◌≡◌, ◌<◌, ◌-◌, ◌++◌, ◌∷◌, [], IfOk, IsTrue, ◌↔◌, length};
 ghost use Rattle.std.specs.Option.{option_copied};
 ghost use Rattle.std.specs.Prelude.{slice_get};
 
@@ -62,6 +62,13 @@ impl History {
     {
         let _room = self.room;
         self.entries.len() as u32
+    }
+
+    /// For how many more entries there is room.
+    pub fn spare(&self) -> u32
+        ensures { result ≡ self.now.room - length self.now.entries }
+    {
+        self.room - self.len()
     }
 
     pub fn is_empty(&self) -> bool
