@@ -144,6 +144,13 @@ impl<T: Tune> Policy<T> {
         self.promotions
     }
 
+    /// The least threshold, at least 1.
+    pub fn floor(&self) -> u8
+        ensures { result ≡ self.now.tuner.floor }
+    {
+        self.tuner.floor()
+    }
+
     /// The tuner that it was made with.
     pub fn into_tuner(self) -> Tuner<T>
         ensures { result ≡ self.tuner }

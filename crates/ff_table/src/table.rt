@@ -86,6 +86,14 @@ impl Table {
         let _ = &self.homes;
     }
 
+    /// How many pages there are.
+    pub fn pages(&self) -> u32
+        ensures { result ≡ length self.now.homes }
+    {
+        self.known();
+        self.homes.len() as u32
+    }
+
     /// Where a page is at home.
     pub fn home(&self, page: PageNo) -> Home
         requires { page.0 < length self.now.homes }
