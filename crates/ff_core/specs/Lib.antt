@@ -1,0 +1,15 @@
+pub mod Accesses
+pub mod Backs
+pub mod CanPerform
+pub mod Choices
+pub mod Core
+pub mod CoreSound
+pub mod Hierarchy
+pub mod Log
+pub mod Misses
+pub mod Performs
+pub mod Record
+pub mod RecordFields
+pub mod Tally
+pub mod Told
+pub mod Turns

@@ -1,0 +1,203 @@
+// The choices of the background turns, and what is done for a call that missed.
+ghost use Rattle.std.specs.Prelude.{◌≡◌, ◌<◌, ℕ, length, MatchOption, true, false, IsTrue, ◌↔◌};
+ghost use Rattle.ff_evict.specs.Evictor.{IsHandInside};
+ghost use Rattle.ff_memory.specs.Located.{IsLocated};
+ghost use Rattle.ff_memory.specs.Places.{is_home};
+ghost use Rattle.ff_core.specs.Choices.{CollectChoice, DrainChoice, EvictChoice, IsChoice, IsLeastPromotable, IsNextSlot, IsNoneMoving, IsPromotable, PromoteChoice};
+ghost use Rattle.ff_core.specs.Hierarchy.{lines_under};
+ghost use Rattle.ff_core.specs.Misses.{IsActionAtRest, IsMarkAction, IsMissAction, IsMissOp, action_in_flight};
+ghost use Rattle.ff_plb.specs.Plb.{HasEntry, IsInUse};
+ghost use Rattle.ff_plb.specs.declared.slot.Slot.{Slot};
+ghost use Rattle.ff_plb.specs.declared.slot.Way.TheVariants.{Leaving};
+
+use crate::action::Action;
+use crate::hierarchy::Hierarchy;
+use ff_base::PageNo;
+use ff_evict::Pick;
+use ff_flash::Flash;
+use ff_lines::LineDevice;
+use ff_model::{Kind, Op};
+use ff_plb::{NextStep, Way};
+use ff_policy::Tune;
+use ff_table::Home;
+
+impl<F: Flash, T: Tune, E: Pick> Hierarchy<F, T, E> {
+    // What a background turn does, or nothing.
+    pub(crate) fn choice(&self, kind: Kind) -> Option<Action>
+        requires counters { length self.now.policy.counters ≡ length self.now.memory.table.homes }
+        requires hand { IsHandInside self.now.evictor.hand self.now.memory.frames }
+        requires located { IsLocated self.now.memory (lines_under self.now) }
+        ensures { IsChoice E.score kind self.now result }
+    {
+        match kind {
+            Kind::Promote => self.promote_choice(),
+            Kind::Evict => self.evict_choice(),
+            Kind::Collect => self.collect_choice(),
+            Kind::Drain => self.drain_choice(),
+        }
+    }
+
+    // The slot whose page makes the next step of those that go this way.
+    fn next_slot(&self, way: Way) -> Option<u32>
+        ensures { MatchOption result (IsNoneMoving way self.now.memory.slots)
+            (IsNextSlot way self.now.memory.slots) }
+    {
+        let plb = self.memory.plb();
+        if let Some(slot) = plb.least_next(way, NextStep::Finish) {
+            return Some(slot);
+        }
+        if let Some(slot) = plb.least_next(way, NextStep::Land) {
+            return Some(slot);
+        }
+        plb.least_next(way, NextStep::Lift)
+    }
+
+    fn promote_choice(&self) -> Option<Action>
+        requires counters { length self.now.policy.counters ≡ length self.now.memory.table.homes }
+        ensures { PromoteChoice self.now result }
+    {
+        match self.next_slot(Way::Coming) {
+            Some(slot) => Some(Action::Advance(slot)),
+            None => match self.promotable() {
+                Some(page) => Some(Action::Promote(page)),
+                None => None,
+            },
+        }
+    }
+
+    // Whether the page may come in, and is hot, where a frame and a slot are free.
+    fn may_promote(&self, page: PageNo) -> bool
+        requires page { page.0 < length self.now.memory.table.homes }
+        requires counters { length self.now.policy.counters ≡ length self.now.memory.table.homes }
+        requires frame { IsNoneFree self.now.memory.frames → ⊥ }
+        requires slot { IsNoneEmpty self.now.memory.slots → ⊥ }
+        ensures { IsTrue result ↔ IsPromotable self.now page.0 }
+    {
+        let table = self.memory.table();
+        self.policy.is_hot(page)
+            && table.home(page) == Home::Ssd
+            && table.marks(page) == 0
+            && self.memory.plb().find(page).is_none()
+            && self.device.resident(page)
+    }
+
+    // The least hot page that may come in.
+    fn promotable(&self) -> Option<PageNo>
+        requires counters { length self.now.policy.counters ≡ length self.now.memory.table.homes }
+        ensures { MatchOption result ((page : ℕ) → IsPromotable self.now page → ⊥)
+            (λ page. IsLeastPromotable self.now page.0) }
+    {
+        if self.memory.frames().free() == 0 || self.memory.plb().free_slot().is_none() {
+            return None;
+        }
+        for page in 0..self.memory.table().pages() {
+            if self.may_promote(PageNo(page)) {
+                return Some(PageNo(page));
+            }
+        }
+        None
+    }
+
+    fn evict_choice(&self) -> Option<Action>
+        requires hand { IsHandInside self.now.evictor.hand self.now.memory.frames }
+        requires located { IsLocated self.now.memory (lines_under self.now) }
+        ensures { EvictChoice E.score self.now result }
+    {
+        match self.next_slot(Way::Leaving) {
+            Some(slot) => Some(Action::Advance(slot)),
+            None => self.eviction(),
+        }
+    }
+
+    fn eviction(&self) -> Option<Action>
+        requires none { IsNoneMoving Leaving self.now.memory.slots }
+        requires hand { IsHandInside self.now.evictor.hand self.now.memory.frames }
+        ensures { EvictChoice E.score self.now result }
+    {
+        if self.memory.frames().free() > 0 || self.memory.plb().free_slot().is_none() {
+            return None;
+        }
+        let frame = self.evictor.choose(self.memory.frames(), self.memory.plb())?;
+        let page = self.memory.frames().page(frame)?;
+        if self.device.resident(page) {
+            Some(Action::Evict(frame))
+        } else {
+            Some(Action::Work(page))
+        }
+    }
+
+    fn collect_choice(&self) -> Option<Action>
+        ensures { CollectChoice self.now result }
+    {
+        if self.device.is_pending() || self.device.wants_collect() {
+            Some(Action::Collect)
+        } else {
+            None
+        }
+    }
+
+    fn drain_choice(&self) -> Option<Action>
+        ensures { DrainChoice self.now result }
+    {
+        if self.device.waiting() > 0 {
+            Some(Action::Drain)
+        } else {
+            None
+        }
+    }
+
+    // What is done for a load, a store or a mark that missed this page.
+    pub(crate) fn miss_action(&self, op: &Op, page: PageNo) -> Action
+        requires op { IsMissOp op.now }
+        ensures { IsMissAction op.now page self.now result }
+    {
+        match op {
+            Op::Load { at: _, len: _ } => Action::Work(page),
+            Op::Store { at: _, bytes: _ } => Action::Work(page),
+            Op::Mark {
+                page: _,
+                from: _,
+                count: _,
+            } => self.mark_action(page),
+            Op::Verify => unreachable!(),
+            Op::Release {
+                page: _,
+                from: _,
+                count: _,
+            } => unreachable!(),
+        }
+    }
+
+    fn mark_action(&self, page: PageNo) -> Action
+        ensures { IsMarkAction self.now page result }
+    {
+        match self.memory.plb().find(page) {
+            Some(slot) => self.action_in_flight(slot),
+            None => self.action_at_rest(page),
+        }
+    }
+
+    fn action_in_flight(&self, slot: u32) -> Action
+        requires { IsInUse self.now.memory.slots slot }
+        ensures { (entry : Slot) → HasEntry self.now.memory.slots slot entry
+            → result ≡ action_in_flight entry.way slot }
+    {
+        match self.memory.plb().entry(slot).way {
+            Way::Coming => Action::TurnBack(slot),
+            Way::Leaving => Action::Advance(slot),
+        }
+    }
+
+    fn action_at_rest(&self, page: PageNo) -> Action
+        ensures { IsActionAtRest self.now page result }
+    {
+        if self.memory.plb().free_slot().is_none() {
+            return Action::Advance(0);
+        }
+        if self.device.resident(page) {
+            Action::Retreat(page)
+        } else {
+            Action::Work(page)
+        }
+    }
+}

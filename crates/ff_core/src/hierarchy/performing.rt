@@ -1,0 +1,146 @@
+// The actions of events.
+ghost use Rattle.std.specs.Prelude.{ℕ, ◌≡◌, ◌<◌, length, true};
+ghost use Rattle.ff_memory.specs.Begins.{CanRetreat, IsComingSlot};
+ghost use Rattle.ff_plb.specs.Plb.{IsFound, IsInUse};
+ghost use Rattle.ff_core.specs.CanPerform.{CanPerform, IsAbsent, IsEvictable, IsGiven};
+ghost use Rattle.ff_core.specs.Choices.{CanCollect, IsPromotable};
+ghost use Rattle.ff_core.specs.Hierarchy.{lines_under};
+ghost use Rattle.ff_core.specs.Performs.{HasCollected, HasDrained, HasEvicted, HasPromoted, HasRetreated, IsAdvanced, IsTurnedBack, IsWorkedFor, Performs, progress_of};
+
+use crate::action::{Action, Progress};
+use crate::hierarchy::Hierarchy;
+use ff_base::PageNo;
+use ff_evict::Pick;
+use ff_flash::Flash;
+use ff_lines::{LineDevice, Work};
+use ff_memory::What;
+use ff_policy::Tune;
+
+impl<F: Flash, T: Tune, E: Pick> Hierarchy<F, T, E> {
+    // Performs an action: at most one flash operation.
+    pub(crate) fn perform(&mut self, action: Action) -> Progress
+        requires given { IsGiven self.old }
+        requires may { CanPerform action self.old }
+        ensures { Performs action self.old result self.new }
+    {
+        match action {
+            Action::Advance(slot) => self.advance(slot),
+            Action::TurnBack(slot) => self.turn_back(slot),
+            Action::Work(page) => self.work_for(page),
+            Action::Promote(page) => self.promote(page),
+            Action::Retreat(page) => self.retreat(page),
+            Action::Evict(frame) => self.evict(frame),
+            Action::Collect => self.collect(),
+            Action::Drain => self.drain(),
+        }
+    }
+
+    fn advance(&mut self, slot: u32) -> Progress
+        requires given { IsGiven self.old }
+        requires slot { IsInUse self.old.memory.slots slot }
+        ensures { IsAdvanced slot self.old result self.new }
+    {
+        Progress::Did(self.memory.advance(&mut self.device, slot))
+    }
+
+    fn turn_back(&mut self, slot: u32) -> Progress
+        requires given { IsGiven self.old }
+        requires slot { IsComingSlot self.old.memory slot }
+        ensures { IsTurnedBack slot self.old result self.new }
+    {
+        self.memory.turn_back(slot);
+        Progress::Did(What::Started)
+    }
+
+    fn work_for(&mut self, page: PageNo) -> Progress
+        requires given { IsGiven self.old }
+        requires absent { IsAbsent self.old page.0 }
+        ensures { IsWorkedFor page.0 self.old result self.new }
+    {
+        match self.device.work(page) {
+            Work::Pinned(other) => self.yield_to(other),
+            work => progress_of(work),
+        }
+    }
+
+    // The page that keeps the set makes its step.
+    fn yield_to(&mut self, other: PageNo) -> Progress
+        requires given { IsGiven self.old }
+        requires pinned { (lines_under self.old).pinned other.0 ≡ true }
+        ensures { (slot : ℕ) × IsFound self.old.memory.slots other.0 slot × IsAdvanced slot self.old result self.new }
+    {
+        match self.memory.plb().find(other) {
+            Some(slot) => self.advance(slot),
+            None => unreachable!(),
+        }
+    }
+
+    fn promote(&mut self, page: PageNo) -> Progress
+        requires given { IsGiven self.old }
+        requires may { IsPromotable self.old page.0 }
+        ensures { HasPromoted page.0 self.old result self.new }
+    {
+        self.memory.begin_promote(&mut self.device, page);
+        self.policy.promote(page);
+        Progress::Did(What::Started)
+    }
+
+    fn retreat(&mut self, page: PageNo) -> Progress
+        requires given { IsGiven self.old }
+        requires may { CanRetreat self.old.memory (lines_under self.old) page.0 }
+        ensures { HasRetreated page.0 self.old result self.new }
+    {
+        self.memory.begin_retreat(&mut self.device, page);
+        Progress::Did(What::Started)
+    }
+
+    fn evict(&mut self, frame: u32) -> Progress
+        requires given { IsGiven self.old }
+        requires may { IsEvictable self.old frame }
+        ensures { HasEvicted frame self.old result self.new }
+    {
+        let Some(page) = self.memory.frames().page(frame) else {
+            unreachable!()
+        };
+        self.memory.begin_retreat(&mut self.device, page);
+        self.memory.clear_referred(self.evictor.hand(), frame);
+        self.evictor.chosen(self.memory.frames(), frame);
+        Progress::Did(What::Started)
+    }
+
+    fn collect(&mut self) -> Progress
+        requires given { IsGiven self.old }
+        requires may { CanCollect self.old }
+        ensures { HasCollected self.old result self.new }
+    {
+        let what = if self.device.is_pending() {
+            What::Sealed
+        } else {
+            What::Collected
+        };
+        match self.device.collect_work() {
+            Work::Failed => Progress::Failed,
+            Work::Off => Progress::Off,
+            _ => Progress::Did(what),
+        }
+    }
+
+    fn drain(&mut self) -> Progress
+        requires given { IsGiven self.old }
+        requires may { 0 < length self.old.device.window.posts }
+        ensures { HasDrained self.old result self.new }
+    {
+        self.device.drain_one();
+        Progress::Did(What::Drained)
+    }
+}
+
+fn progress_of(work: Work) -> Progress
+    ensures { result ≡ progress_of work }
+{
+    match work {
+        Work::Failed => Progress::Failed,
+        Work::Off => Progress::Off,
+        _ => Progress::Did(What::Worked),
+    }
+}
