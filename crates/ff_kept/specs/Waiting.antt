@@ -1,5 +1,5 @@
 -- What the waiting posts are to a history: each later store to a marked line, in order.
-use Rattle.std.specs.Prelude.{ℕ, ◌+◌, ◌-◌, ◌≤◌, ◌≡◌, Bool, true, List, [], ◌∷◌, Option, Some, None, unwrap_or, slice_get, take, drop}
+use Rattle.std.specs.Prelude.{ℕ, ◌+◌, ◌≤◌, ◌≡◌, Bool, true, List, [], ◌∷◌, Option, Some, None, unwrap_or, slice_get, slice_range, drop}
 use Rattle.ff_lines.specs.declared.post.Post.{Post}
 use Rattle.ff_model.specs.Flat.{is_done}
 use Rattle.ff_model.specs.declared.history.Entry.{Entry}
@@ -17,7 +17,7 @@ pub record IsNextStore (marked : ℕ → Bool) (history : List Entry) (from posi
   pub there : slice_get history position ≡ Some entry
   pub done : is_done entry.reply ≡ true
   pub store : entry.op ≡ store_of post
-  pub none_between : marked_stores marked (take (position - from) (drop from history)) ≡ 0
+  pub none_between : marked_stores marked (slice_range history from position) ≡ 0
 
 -- what the oldest post is to the history from a place on, by its position, where the later posts are something to the
 -- history from the next place on
