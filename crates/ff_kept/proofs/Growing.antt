@@ -33,7 +33,7 @@ pub past-longer : (base : Content) (history later : List Entry) (byte : ℕ → 
 past-longer base history later byte past line =
     let reads = past line in (reads.0, reads-longer base history later byte line reads.0 reads.1)
 
-past-laid : (base : Content) (history : List Entry) (below : ℕ → ℕ) (xs ys : List Post) → xs ≡ ys
+pub past-laid : (base : Content) (history : List Entry) (below : ℕ → ℕ) (xs ys : List Post) → xs ≡ ys
     → IsPast base history (λ address. byte_over address xs (below address))
     → IsPast base history (λ address. byte_over address ys (below address))
 past-laid base history below xs ys same past =

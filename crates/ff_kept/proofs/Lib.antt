@@ -1,3 +1,4 @@
+pub mod Acknowledging
 pub mod Apart
 pub mod Draining
 pub mod Growing
