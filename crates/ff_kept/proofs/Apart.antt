@@ -43,7 +43,7 @@ covering_byte-other address at bytes fits apart =
     ])
 
 -- an entry that was answered Done is in range
-in_range-done : (opening : Opening) (before : List Entry) (entry : Entry) → MayFollow opening before entry
+pub in_range-done : (opening : Opening) (before : List Entry) (entry : Entry) → MayFollow opening before entry
     → is_done entry.reply ≡ true → IsTrue (is_in_range opening.pages entry.op)
 in_range-done opening before entry follows done = elim (cases_Bool (is_in_range opening.pages entry.op)) [
   | inl within ↦ within
