@@ -1,0 +1,11 @@
+pub mod Acknowledging
+pub mod Apart
+pub mod Draining
+pub mod Growing
+pub mod LineBytes
+pub mod Losing
+pub mod MarkedStores
+pub mod Marks
+pub mod Posting
+pub mod Prefixes
+pub mod Waiting

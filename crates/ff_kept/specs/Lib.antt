@@ -1,0 +1,4 @@
+pub mod Keeping
+pub mod Marked
+pub mod Posted
+pub mod Waiting
