@@ -28,7 +28,13 @@ ways_of slots = map way_of slots
 -- the slot of a way after a mount, neither touched nor pinned
 abbrev pub slot_of : NvWay → Slot
 slot_of way =
-    record { page = way.page; dirty = way.dirty; touched = false; pinned = false; bytes = way.bytes }
+    record {
+      page = way.page;
+      dirty = way.dirty;
+      touched = false;
+      pinned = false;
+      bytes = way.bytes;
+    }
 
 abbrev pub slots_of : List NvWay → List Slot
 slots_of ways = map slot_of ways

@@ -153,7 +153,8 @@ impl Plb {
     /// A line is under way.
     pub fn lift(&mut self, slot: u32, flight: Flight)
         requires { IsInUse self.old slot }
-        ensures { self.new ≡ with_slot self.old slot (option_map (after_lift flight) (slot_at self.old slot)) }
+        ensures { self.new
+            ≡ with_slot self.old slot (option_map (after_lift flight) (slot_at self.old slot)) }
     {
         let entry = self.entry(slot);
         self.put(slot, entry.lifted(flight));
@@ -164,7 +165,8 @@ impl Plb {
         requires { HasFlight self.old slot }
         ensures landing { IfSome (slot_at self.old slot) (λ entry.
             IfSome entry.flight (λ flight. result ≡ landing_of flight entry)) }
-        ensures slots { self.new ≡ with_slot self.old slot (option_map after_landing (slot_at self.old slot)) }
+        ensures slots { self.new
+            ≡ with_slot self.old slot (option_map after_landing (slot_at self.old slot)) }
     {
         let entry = self.entry(slot);
         self.put(slot, entry.landed());
@@ -176,7 +178,8 @@ impl Plb {
     pub fn store_hit(&mut self, slot: u32, line: u8)
         requires used { IsInUse self.old slot }
         requires line { line < 64 }
-        ensures { self.new ≡ with_slot self.old slot (option_map (after_store line) (slot_at self.old slot)) }
+        ensures { self.new
+            ≡ with_slot self.old slot (option_map (after_store line) (slot_at self.old slot)) }
     {
         let entry = self.entry(slot);
         self.put(slot, entry.stored(line));
@@ -185,8 +188,10 @@ impl Plb {
     /// A coming page turns back. The lines that aren't dirty count as copied.
     pub fn turn_back(&mut self, slot: u32, dirty: LineMask)
         requires { IsInUse self.old slot }
-        ensures slots { self.new ≡ with_slot self.old slot (option_map (after_turn dirty) (slot_at self.old slot)) }
-        ensures copied { (line : ℕ) → line < 64 → has_line (mask_others dirty) line ≡ not (has_line dirty line) }
+        ensures slots { self.new
+            ≡ with_slot self.old slot (option_map (after_turn dirty) (slot_at self.old slot)) }
+        ensures copied { (line : ℕ) → line < 64
+            → has_line (mask_others dirty) line ≡ not (has_line dirty line) }
     {
         let entry = self.entry(slot);
         self.put(slot, entry.turned(dirty));

@@ -120,7 +120,8 @@ impl Slot {
 
     pub(crate) fn turned(self, dirty: LineMask) -> Slot
         ensures entry { result ≡ after_turn dirty self }
-        ensures copied { (line : ℕ) → line < 64 → has_line (mask_others dirty) line ≡ not (has_line dirty line) }
+        ensures copied { (line : ℕ) → line < 64
+            → has_line (mask_others dirty) line ≡ not (has_line dirty line) }
     {
         Slot {
             way: Way::Leaving,
