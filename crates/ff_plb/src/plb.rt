@@ -1,10 +1,11 @@
 // The slots of the buffer.
 ghost use Rattle.std.specs.Prelude.{ℕ, ◌≡◌, ◌≢◌, ◌<◌, ◌^◌, ◌↔◌, not, IfOk, IfSome, IsSome, IsTrue, MatchOption, None, Some, option_copied, option_map, replicate, length};
 ghost use Rattle.ff_lines.specs.LineMask.{has_line, mask_others};
+ghost use Rattle.ff_plb.specs.NextStep.{IsLeastNext, IsNextIn, IsNoneNext};
 ghost use Rattle.ff_plb.specs.Plb.{ArePagesApart, HasEntry, HasFlight, IsEmpty, IsFound, IsInUse, IsLeastEmpty, IsNoneEmpty, entry_if, entry_of, slot_at, with_slot};
 ghost use Rattle.ff_plb.specs.Slot.{after_landing, after_lift, after_store, after_turn, landing_of};
 
-use crate::slot::{Flight, Landing, Slot, Way};
+use crate::slot::{Flight, Landing, NextStep, Slot, Way};
 use ff_base::{NoMemory, PageNo};
 use ff_lines::LineMask;
 use std::alloc::Global;
@@ -73,6 +74,26 @@ fn first_empty(slots: &[Option<Slot>]) -> Option<usize>
     None
 }
 
+fn has_next(slot: &Option<Slot>, way: Way, step: NextStep) -> bool
+    ensures { IsTrue result ↔ IsNextIn slot.now way step }
+{
+    match slot {
+        Some(entry) => entry.way == way && entry.is_next(step),
+        None => false,
+    }
+}
+
+fn first_next(slots: &[Option<Slot>], way: Way, step: NextStep) -> Option<usize>
+    ensures { MatchOption result (IsNoneNext slots.now way step) (IsLeastNext slots.now way step) }
+{
+    for (at, slot) in slots.iter().enumerate() {
+        if has_next(slot, way, step) {
+            return Some(at);
+        }
+    }
+    None
+}
+
 impl Plb {
     /// So many empty slots, 1 to 64 in a geometry.
     pub fn new(alloc: Global, slots: u32) -> Result<Plb, NoMemory>
@@ -102,6 +123,14 @@ impl Plb {
         ensures { MatchOption result (IsNoneEmpty self.now) (IsLeastEmpty self.now) }
     {
         let slot = first_empty(&self.slots)?;
+        Some(slot as u32)
+    }
+
+    /// The least slot with a page that goes this way and whose next step is this.
+    pub fn least_next(&self, way: Way, step: NextStep) -> Option<u32>
+        ensures { MatchOption result (IsNoneNext self.now way step) (IsLeastNext self.now way step) }
+    {
+        let slot = first_next(&self.slots, way, step)?;
         Some(slot as u32)
     }
 
