@@ -6,7 +6,7 @@ use Rattle.std.proofs.lemmas.List.{get_or-replicate, get_or_past, length-replica
 use Rattle.ff_base.specs.Geometry.{IsWithinLimits}
 use Rattle.ff_base.specs.declared.geometry.Geometry.{Geometry}
 use Rattle.ff_cache.specs.Cache.{fresh_cache, AreSizes, IsCacheSound}
-use Rattle.ff_cache.specs.Slots.{empty_slot, slot_at}
+use Rattle.ff_cache.specs.Slots.{empty_slot, cache_slot_at}
 use Rattle.ff_rrip.specs.Ways.{distant_value}
 
 -- a geometry's sets and ways
@@ -18,8 +18,8 @@ sizes_of g within = record {
   few = within.cache_ways.high;
 }
 
-slot_at-fresh : (count k : ℕ) → slot_at (replicate count empty_slot) k ≡ empty_slot
-slot_at-fresh count k = elim (cases_lt k count) [
+cache_slot_at-fresh : (count k : ℕ) → cache_slot_at (replicate count empty_slot) k ≡ empty_slot
+cache_slot_at-fresh count k = elim (cases_lt k count) [
   | inl within ↦ get_or-replicate count k empty_slot empty_slot within
   | inr past ↦ get_or_past (replicate count empty_slot) k empty_slot (rw (length-replicate count empty_slot) past)
 ]
@@ -29,11 +29,11 @@ fresh_sound sets ways sizes = record {
   sizes = sizes;
   slots = record {
     size = length-replicate (sets * ways) empty_slot;
-    placed = λ k page within is. let empty : false ≡ true = rw (slot_at-fresh (sets * ways) k) at is in absurd (cc);
+    placed = λ k page within is. let empty : false ≡ true = rw (cache_slot_at-fresh (sets * ways) k) at is in absurd (cc);
     unique = λ k j page within below is also.
-        let empty : false ≡ true = rw (slot_at-fresh (sets * ways) k) at is in absurd (cc);
-    clean = λ k empty. rw (slot_at-fresh (sets * ways) k) refl;
-    unpinned = λ k empty. rw (slot_at-fresh (sets * ways) k) refl;
+        let empty : false ≡ true = rw (cache_slot_at-fresh (sets * ways) k) at is in absurd (cc);
+    clean = λ k empty. rw (cache_slot_at-fresh (sets * ways) k) refl;
+    unpinned = λ k empty. rw (cache_slot_at-fresh (sets * ways) k) refl;
   };
   values = record {
     count = length-replicate sets (replicate ways distant_value);

@@ -4,7 +4,7 @@ use Rattle.std.specs.Option.{is_none}
 use Rattle.std.specs.Prelude.{IfSome, MatchOption}
 use Rattle.std.proofs.lemmas.Bool.{and_from, and_left, and_right, and_parts, cases_lt}
 use Rattle.ff_cache.specs.Cache.{CacheView, all_below, first_of, is_full_set, way_at, IsEmptyWay}
-use Rattle.ff_cache.specs.Slots.{is_empty, slot_at, IsFirstThat, NonePasses}
+use Rattle.ff_cache.specs.Slots.{is_empty, cache_slot_at, IsFirstThat, NonePasses}
 
 pub all_below_true : (test : ℕ → Bool) (n : ℕ) → ((k : ℕ) → k < n → test k ≡ true) → all_below test n ≡ true
 all_below_true test zero each = refl
@@ -39,12 +39,12 @@ full_set cache page none =
 
 -- a way of the set is empty
 pub not_full_set : (cache : CacheView) (page slot : ℕ) → first_of cache page ≤ slot → slot < first_of cache page + cache.ways
-    → is_empty (slot_at cache.slots slot) ≡ true → is_full_set cache page ≡ false
+    → is_empty (cache_slot_at cache.slots slot) ≡ true → is_full_set cache page ≡ false
 not_full_set cache page slot from to empty =
     let first : ℕ = first_of cache page in
     let place : first + (slot - first) ≡ slot = omega arith in
     all_below_false (λ way. not (is_empty (way_at cache page way))) cache.ways (slot - first) (omega arith)
-    (ap (λ k. not (is_empty (slot_at cache.slots k))) place ∙ ap not empty)
+    (ap (λ k. not (is_empty (cache_slot_at cache.slots k))) place ∙ ap not empty)
 
 -- what the search for an empty way tells
 pub full_told : (cache : CacheView) (page : ℕ) (result : Option ℕ)

@@ -3,12 +3,12 @@ use Rattle.std.proofs.Common.{◌≡◌, ◌≢◌, ◌<◌, ℕ, zero, suc, Boo
 use Rattle.std.specs.Option.{is_none}
 use Rattle.std.proofs.lemmas.Bool.{ne_eqb, eqb-true}
 use Rattle.ff_base.specs.declared.numbers.PageNo.{PageNo}
-use Rattle.ff_cache.specs.Slots.{held, holds, is_empty, is_page, slot_at}
+use Rattle.ff_cache.specs.Slots.{held, holds, is_empty, is_page, cache_slot_at}
 use Rattle.ff_cache.specs.declared.slot.Slot.{Slot}
 
 -- the first slot that holds the page is found
-pub held_first : (slots : List Slot) (page k : ℕ) → k < length slots → holds (slot_at slots k) page ≡ true
-    → ((j : ℕ) → j < k → holds (slot_at slots j) page ≡ false) → held slots page ≡ Some (slot_at slots k)
+pub held_first : (slots : List Slot) (page k : ℕ) → k < length slots → holds (cache_slot_at slots k) page ≡ true
+    → ((j : ℕ) → j < k → holds (cache_slot_at slots j) page ≡ false) → held slots page ≡ Some (cache_slot_at slots k)
 held_first [] page k within is before = absurd (omega arith)
 held_first (slot ∷ later) page zero within is before = rw is refl
 held_first (slot ∷ later) page (suc k) within is before =
@@ -16,7 +16,7 @@ held_first (slot ∷ later) page (suc k) within is before =
     rw first (held_first later page k (omega arith) is (λ j below. before (suc j) (omega arith)))
 
 -- no slot holds the page
-pub held_none : (slots : List Slot) (page : ℕ) → ((j : ℕ) → j < length slots → holds (slot_at slots j) page ≡ false)
+pub held_none : (slots : List Slot) (page : ℕ) → ((j : ℕ) → j < length slots → holds (cache_slot_at slots j) page ≡ false)
     → held slots page ≡ None
 held_none [] page none = refl
 held_none (slot ∷ later) page none =
@@ -27,8 +27,8 @@ held_none (slot ∷ later) page none =
 pub record IsHeldAt (slots : List Slot) (page : ℕ) (slot : Slot) : Type 0 where
   pub k : ℕ
   pub within : k < length slots
-  pub holds : holds (slot_at slots k) page ≡ true
-  pub is : slot ≡ slot_at slots k
+  pub holds : holds (cache_slot_at slots k) page ≡ true
+  pub is : slot ≡ cache_slot_at slots k
 
 held_at_or : (first : Bool) (slot found : Slot) (later : List Slot) (page : ℕ) → holds slot page ≡ first
     → cond first (Some slot) (held later page) ≡ Some found
@@ -53,7 +53,7 @@ none_parts false slot rest none = (refl, none)
 
 -- a page that is held nowhere
 pub none_holds : (slots : List Slot) (page k : ℕ) → held slots page ≡ None → k < length slots
-    → holds (slot_at slots k) page ≡ false
+    → holds (cache_slot_at slots k) page ≡ false
 none_holds [] page k none within = absurd (omega arith)
 none_holds (slot ∷ later) page zero none within = (none_parts (holds slot page) slot (held later page) none).0
 none_holds (slot ∷ later) page (suc k) none within =

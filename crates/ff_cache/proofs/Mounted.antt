@@ -7,13 +7,13 @@ use Rattle.ff_base.specs.declared.geometry.Geometry.{Geometry}
 use Rattle.std.specs.Prelude.{slice_index}
 use Rattle.ff_cache.specs.Cache.{values_at, IsCacheSound}
 use Rattle.ff_cache.specs.Nv.{NvWay, mounted_value, slot_of, slots_of, way_of, ways_of, AreMounted}
-use Rattle.ff_cache.specs.Slots.{slot_at, ArePlaced}
+use Rattle.ff_cache.specs.Slots.{cache_slot_at, ArePlaced}
 use Rattle.ff_cache.specs.declared.slot.Slot.{Slot}
 use Rattle.ff_cache.proofs.Fresh.{sizes_of}
 
 -- each slot is neither touched nor pinned
 pub calmed : (old new : List Slot) → length new ≡ length old
-    → ((k : ℕ) → k < length old → slot_at new k ≡ slot_of (way_of (slot_at old k))) → new ≡ slots_of (ways_of old)
+    → ((k : ℕ) → k < length old → cache_slot_at new k ≡ slot_of (way_of (cache_slot_at old k))) → new ≡ slots_of (ways_of old)
 calmed [] [] size each = refl
 calmed [] (y ∷ ys) size each = absurd (omega arith)
 calmed (x ∷ xs) [] size each = absurd (omega arith)
@@ -30,7 +30,7 @@ ways_of_slots (way ∷ later) = ap (λ (rest : List NvWay). way ∷ rest) (ways_
 -- one more set
 pub mounted_more : (count ways : ℕ) (slots : List Slot) (values : List (List ℕ)) (made : List ℕ)
     → AreMounted count ways slots values → length made ≡ ways
-    → ((way : ℕ) → way < ways → slice_index made way ≡ mounted_value (slot_at slots (count * ways + way)))
+    → ((way : ℕ) → way < ways → slice_index made way ≡ mounted_value (cache_slot_at slots (count * ways + way)))
     → AreMounted (count + 1) ways slots (values ++ made ∷ [])
 mounted_more count ways slots values made are size each =
     let total : length values ≡ count = are.sizes.count in

@@ -2,7 +2,7 @@
 use Rattle.std.proofs.Common.{◌≡◌, ◌≢◌, ◌<◌, inl, inr, ℕ, ◌/◌, ◌%◌, true, false, List, [], length, set, refl, sym, ◌∙◌, arith, None, length-set, get_or-set_same, get_or-set_other}
 use Rattle.std.proofs.lemmas.Bool.{cases_eq, eqb-true}
 use Rattle.ff_cache.specs.Cache.{CacheView, values_at, with_value, AreValues, IsCacheSound, IsInSet}
-use Rattle.ff_cache.specs.Slots.{empty_slot, held, holds, slot_at, slot_filled, ArePlaced, IsWayOf}
+use Rattle.ff_cache.specs.Slots.{empty_slot, held, holds, cache_slot_at, slot_filled, ArePlaced, IsWayOf}
 use Rattle.ff_cache.specs.declared.slot.Slot.{Slot}
 use Rattle.ff_cache.proofs.Held.{none_holds}
 
@@ -30,7 +30,7 @@ pub filled_placed : (sets ways page k : ℕ) (bytes : List ℕ) (slots : List Sl
     → ArePlaced sets ways (set slots k (slot_filled page bytes))
 filled_placed sets ways page k bytes slots are within way absent =
     let slot : Slot = slot_filled page bytes in
-    let here : slot_at (set slots k slot) k ≡ slot = get_or-set_same slots k slot empty_slot within in
+    let here : cache_slot_at (set slots k slot) k ≡ slot = get_or-set_same slots k slot empty_slot within in
     let there = λ (j : ℕ) (apart : j ≢ k). get_or-set_other slots k j slot empty_slot apart in
     let size : length (set slots k slot) ≡ length slots = length-set slots k slot in
     record {
@@ -46,17 +46,17 @@ filled_placed sets ways page k bytes slots are within way absent =
           | inl other ↦ same ∙ sym other
           | inr apart ↦
               let filled : holds slot p ≡ true = rw (same, here) at is in
-              let held_there : holds (slot_at slots i) page ≡ true =
+              let held_there : holds (cache_slot_at slots i) page ≡ true =
               rw (sym (filled_holds page p bytes filled)) (rw (there i apart) at also) in
-              let nowhere : holds (slot_at slots i) page ≡ false = none_holds slots page i absent (omega arith) in
+              let nowhere : holds (cache_slot_at slots i) page ≡ false = none_holds slots page i absent (omega arith) in
               absurd (cc)
         ]
         | inr apart ↦ elim (cases_eq i k) [
           | inl other ↦
               let filled : holds slot p ≡ true = rw (other, here) at also in
-              let held_there : holds (slot_at slots j) page ≡ true =
+              let held_there : holds (cache_slot_at slots j) page ≡ true =
               rw (sym (filled_holds page p bytes filled)) (rw (there j apart) at is) in
-              let nowhere : holds (slot_at slots j) page ≡ false = none_holds slots page j absent (omega arith) in
+              let nowhere : holds (cache_slot_at slots j) page ≡ false = none_holds slots page j absent (omega arith) in
               absurd (cc)
           | inr also_apart ↦
               are.unique j i p (omega arith) (omega arith) (rw (there j apart) at is) (rw (there i also_apart) at also)

@@ -4,7 +4,7 @@ use Rattle.std.specs.Prelude.{MatchOption}
 use Rattle.std.proofs.Math.Nat.{mul-le-mul_left}
 use Rattle.std.proofs.lemmas.Bool.{false_from_ne_true}
 use Rattle.ff_cache.specs.Cache.{CacheView, first_of, IsCacheSound, IsSlotOf}
-use Rattle.ff_cache.specs.Slots.{held, holds, slot_at, IsFirstThat, NonePasses}
+use Rattle.ff_cache.specs.Slots.{held, holds, cache_slot_at, IsFirstThat, NonePasses}
 use Rattle.ff_cache.proofs.Held.{held_first, held_none}
 
 -- the ways of a set are among the slots
@@ -15,11 +15,11 @@ set_fits set sets ways below =
 
 -- a slot that holds a page is the one that is found
 pub slot_of_page : (cache : CacheView) (page k : ℕ) → IsCacheSound cache → k < length cache.slots
-    → holds (slot_at cache.slots k) page ≡ true → IsSlotOf cache page k
+    → holds (cache_slot_at cache.slots k) page ≡ true → IsSlotOf cache page k
 slot_of_page cache page k sound within is = record {
   in_set = record { way = sound.slots.placed k page within is; within = within };
   holds = is;
-  held = held_first cache.slots page k within is (λ j below. false_from_ne_true (holds (slot_at cache.slots j) page)
+  held = held_first cache.slots page k within is (λ j below. false_from_ne_true (holds (cache_slot_at cache.slots j) page)
       (λ also. let same : j ≡ k = sound.slots.unique j k page (omega arith) within also is in absurd (omega arith)));
 }
 
@@ -28,7 +28,7 @@ pub held_nowhere : (cache : CacheView) (page : ℕ) → IsCacheSound cache
     → NonePasses (λ slot. holds slot page) cache.slots (first_of cache page) (first_of cache page + cache.ways)
     → held cache.slots page ≡ None
 held_nowhere cache page sound none =
-    held_none cache.slots page (λ j within. false_from_ne_true (holds (slot_at cache.slots j) page)
+    held_none cache.slots page (λ j within. false_from_ne_true (holds (cache_slot_at cache.slots j) page)
     (λ is. let place = sound.slots.placed j page within is in let not_here = none j place.from place.to in absurd (cc)))
 
 -- what the search of a page's set tells

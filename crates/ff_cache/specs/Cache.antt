@@ -1,6 +1,6 @@
 -- What a contract sees of a cache, and what it keeps.
 use Rattle.std.specs.Prelude.{ℕ, zero, suc, ◌+◌, ◌*◌, ◌<◌, ◌≤◌, ◌≡◌, ◌%◌, ◌/◌, ◌&&◌, Bool, true, false, not, List, [], length, Some, replicate, slice_index_or, slice_set}
-use Rattle.ff_cache.specs.Slots.{empty_slot, held, holds, is_empty, slot_at, ArePlaced, IsWayOf}
+use Rattle.ff_cache.specs.Slots.{empty_slot, held, holds, is_empty, cache_slot_at, ArePlaced, IsWayOf}
 use Rattle.ff_cache.specs.declared.slot.Slot.{Slot}
 use Rattle.ff_rrip.specs.Ways.{distant_value, IsVictimWay}
 
@@ -24,7 +24,7 @@ first_of cache page = set_of cache page * cache.ways
 
 -- a way of a page's set
 abbrev pub way_at : CacheView → ℕ → ℕ → Slot
-way_at cache page way = slot_at cache.slots (first_of cache page + way)
+way_at cache page way = cache_slot_at cache.slots (first_of cache page + way)
 
 -- the values of a set
 abbrev pub values_at : List (List ℕ) → ℕ → List ℕ
@@ -51,15 +51,15 @@ pub record IsInSet (cache : CacheView) (page slot : ℕ) : Type 0 where
 -- the slot is the one that holds the page
 pub record IsSlotOf (cache : CacheView) (page slot : ℕ) : Type 0 where
   pub in_set : IsInSet cache page slot
-  pub holds : holds (slot_at cache.slots slot) page ≡ true
-  pub held : held cache.slots page ≡ Some (slot_at cache.slots slot)
+  pub holds : holds (cache_slot_at cache.slots slot) page ≡ true
+  pub held : held cache.slots page ≡ Some (cache_slot_at cache.slots slot)
 
 -- the slot is the first of the page's set that is empty
 pub record IsEmptyWay (cache : CacheView) (page slot : ℕ) : Type 0 where
   pub in_set : IsInSet cache page slot
-  pub empty : is_empty (slot_at cache.slots slot) ≡ true
+  pub empty : is_empty (cache_slot_at cache.slots slot) ≡ true
   pub least : (other : ℕ) → first_of cache page ≤ other → other < slot
-      → is_empty (slot_at cache.slots other) ≡ false
+      → is_empty (cache_slot_at cache.slots other) ≡ false
 
 -- the slot's way has this value
 abbrev pub with_value : CacheView → ℕ → ℕ → List (List ℕ)

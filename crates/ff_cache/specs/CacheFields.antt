@@ -4,7 +4,12 @@ use Rattle.ff_cache.specs.declared.cache.Cache.TheInside.{Inside}
 
 abbrev pub view_of : Inside → CacheView
 view_of fields =
-    record { slots = fields.slots.items; values = fields.values.items; sets = fields.sets; ways = fields.ways }
+    record {
+      slots = fields.slots.items;
+      values = fields.values.items;
+      sets = fields.sets;
+      ways = fields.ways;
+    }
 
 abbrev pub IsKept : Inside → Type 0
 IsKept fields = IsCacheSound (view_of fields)

@@ -2,7 +2,7 @@
 use Rattle.std.specs.Prelude.{ℕ, ◌+◌, ◌*◌, ◌<◌, ◌≡◌, Bool, false, List, map, Option, slice_index, if◌then◌else◌}
 use Rattle.ff_base.specs.declared.numbers.PageNo.{PageNo}
 use Rattle.ff_cache.specs.Cache.{values_at, AreValues, CacheView}
-use Rattle.ff_cache.specs.Slots.{is_empty, slot_at}
+use Rattle.ff_cache.specs.Slots.{is_empty, cache_slot_at}
 use Rattle.ff_cache.specs.declared.slot.Slot.{Slot}
 use Rattle.ff_rrip.specs.Ways.{distant_value, long_value}
 
@@ -28,7 +28,13 @@ ways_of slots = map way_of slots
 -- the slot of a way after a mount, neither touched nor pinned
 abbrev pub slot_of : NvWay → Slot
 slot_of way =
-    record { page = way.page; dirty = way.dirty; touched = false; pinned = false; bytes = way.bytes }
+    record {
+      page = way.page;
+      dirty = way.dirty;
+      touched = false;
+      pinned = false;
+      bytes = way.bytes;
+    }
 
 abbrev pub slots_of : List NvWay → List Slot
 slots_of ways = map slot_of ways
@@ -41,7 +47,8 @@ mounted_value slot = if is_empty slot then distant_value else long_value
 pub record AreMounted (sets ways : ℕ) (slots : List Slot) (values : List (List ℕ)) : Type 0 where
   pub sizes : AreValues sets ways values
   pub each : (set way : ℕ) → set < sets → way < ways
-      → slice_index (values_at values set) way ≡ mounted_value (slot_at slots (set * ways + way))
+      → slice_index (values_at values set) way
+      ≡ mounted_value (cache_slot_at slots (set * ways + way))
 
 -- the cache of what the battery kept
 pub record IsFromNv (sets ways : ℕ) (kept : List NvWay) (cache : CacheView) : Type 0 where

@@ -18,8 +18,8 @@ empty_slot = record {
 }
 
 -- the slot of a number; past the last it is empty
-abbrev pub slot_at : List Slot → ℕ → Slot
-slot_at slots k = slice_index_or slots k empty_slot
+abbrev pub cache_slot_at : List Slot → ℕ → Slot
+cache_slot_at slots k = slice_index_or slots k empty_slot
 
 -- the page is this one
 abbrev pub is_page : Option PageNo → ℕ → Bool
@@ -70,12 +70,12 @@ slot_pinned on slot = record slot { pinned = on }
 pub record IsFirstThat (test : Slot → Bool) (slots : List Slot) (from to k : ℕ) : Type 0 where
   pub after : from ≤ k
   pub before : k < to
-  pub passes : test (slot_at slots k) ≡ true
-  pub least : (j : ℕ) → from ≤ j → j < k → test (slot_at slots j) ≡ false
+  pub passes : test (cache_slot_at slots k) ≡ true
+  pub least : (j : ℕ) → from ≤ j → j < k → test (cache_slot_at slots j) ≡ false
 
 -- none of those slots passes it
 abbrev pub NonePasses : (Slot → Bool) → List Slot → ℕ → ℕ → Type 0
-NonePasses test slots from to = (k : ℕ) → from ≤ k → k < to → test (slot_at slots k) ≡ false
+NonePasses test slots from to = (k : ℕ) → from ≤ k → k < to → test (cache_slot_at slots k) ≡ false
 
 -- the slot is one of the ways of the page's set
 pub record IsWayOf (sets ways page k : ℕ) : Type 0 where
@@ -85,9 +85,12 @@ pub record IsWayOf (sets ways page k : ℕ) : Type 0 where
 -- each page has one slot at most, in its set, and an empty slot is clean and not pinned
 pub record ArePlaced (sets ways : ℕ) (slots : List Slot) : Type 0 where
   pub size : length slots ≡ sets * ways
-  pub placed : (k page : ℕ) → k < length slots → holds (slot_at slots k) page ≡ true
+  pub placed : (k page : ℕ) → k < length slots → holds (cache_slot_at slots k) page ≡ true
       → IsWayOf sets ways page k
   pub unique : (k j page : ℕ) → k < length slots → j < length slots
-      → holds (slot_at slots k) page ≡ true → holds (slot_at slots j) page ≡ true → k ≡ j
-  pub clean : (k : ℕ) → is_empty (slot_at slots k) ≡ true → (slot_at slots k).dirty ≡ false
-  pub unpinned : (k : ℕ) → is_empty (slot_at slots k) ≡ true → (slot_at slots k).pinned ≡ false
+      → holds (cache_slot_at slots k) page ≡ true → holds (cache_slot_at slots j) page ≡ true
+      → k ≡ j
+  pub clean : (k : ℕ) → is_empty (cache_slot_at slots k) ≡ true
+      → (cache_slot_at slots k).dirty ≡ false
+  pub unpinned : (k : ℕ) → is_empty (cache_slot_at slots k) ≡ true
+      → (cache_slot_at slots k).pinned ≡ false

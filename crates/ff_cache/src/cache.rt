@@ -4,7 +4,7 @@ ghost use Rattle.std.specs.Option.{is_none};
 ghost use Rattle.ff_base.specs.Geometry.{IsWithinLimits};
 ghost use Rattle.ff_base.specs.Page.{line_of};
 ghost use Rattle.ff_cache.specs.Cache.{first_of, fresh_cache, is_full_set, IsCacheSound, IsEmptyWay, IsSlotOf};
-ghost use Rattle.ff_cache.specs.Slots.{held, holds, is_empty, slot_at, IsFirstThat, NonePasses};
+ghost use Rattle.ff_cache.specs.Slots.{held, holds, is_empty, cache_slot_at, IsFirstThat, NonePasses};
 
 mod changes;
 mod fresh;
@@ -115,7 +115,7 @@ impl Cache {
     pub fn line(&self, slot: u32, line: u8) -> [u8; LINE_BYTES]
         requires slot { slot < length self.now.slots }
         requires line { line < 64 }
-        ensures { result ≡ line_of (slot_at self.now.slots slot).bytes line }
+        ensures { result ≡ line_of (cache_slot_at self.now.slots slot).bytes line }
     {
         self.slots[slot as usize].bytes.line(line)
     }
@@ -123,28 +123,28 @@ impl Cache {
     /// Copies the slot's bytes.
     pub fn copy_out(&self, slot: u32, into: &mut PageBuf)
         requires { slot < length self.now.slots }
-        ensures { into.new ≡ (slot_at self.now.slots slot).bytes }
+        ensures { into.new ≡ (cache_slot_at self.now.slots slot).bytes }
     {
         into.copy_from(self.slots[slot as usize].bytes.as_slice());
     }
 
     pub fn is_dirty(&self, slot: u32) -> bool
         requires { slot < length self.now.slots }
-        ensures { result ≡ (slot_at self.now.slots slot).dirty }
+        ensures { result ≡ (cache_slot_at self.now.slots slot).dirty }
     {
         self.slots[slot as usize].dirty
     }
 
     pub fn is_pinned(&self, slot: u32) -> bool
         requires { slot < length self.now.slots }
-        ensures { result ≡ (slot_at self.now.slots slot).pinned }
+        ensures { result ≡ (cache_slot_at self.now.slots slot).pinned }
     {
         self.slots[slot as usize].pinned
     }
 
     pub fn page(&self, slot: u32) -> Option<PageNo>
         requires { slot < length self.now.slots }
-        ensures { result ≡ (slot_at self.now.slots slot).page }
+        ensures { result ≡ (cache_slot_at self.now.slots slot).page }
     {
         self.slots[slot as usize].page
     }

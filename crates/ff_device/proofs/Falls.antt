@@ -7,7 +7,7 @@ use Rattle.std.proofs.lemmas.Bool.{cases_Bool, cases_eq, cases_lt, false_from_ne
 use Rattle.std.proofs.lemmas.List.{get_or_past}
 use Rattle.ff_base.specs.declared.numbers.PageNo.{PageNo}
 use Rattle.ff_cache.specs.Cache.{is_full_set, set_of, values_of, way_at, IsCacheSound}
-use Rattle.ff_cache.specs.Slots.{empty_slot, held, holds, slot_at, slot_flushed, slot_flushing}
+use Rattle.ff_cache.specs.Slots.{empty_slot, held, holds, cache_slot_at, slot_flushed, slot_flushing}
 use Rattle.ff_cache.specs.declared.slot.Slot.{Slot}
 use Rattle.ff_lines.specs.declared.post.Post.{Post}
 use Rattle.ff_device.specs.Draining.{SameFrames}
@@ -116,9 +116,9 @@ drained_falls old new page sound absent still idle full none free frames posts s
     let before : steps_to old page ≡ suc (0 + suc (old.store.left + 2)) =
     steps_idle old page absent idle ∙ ap (λ (n : ℕ). suc (0 + n)) (steps_full old page None full none ∙ rw idle refl) in
     let k : ℕ = page % old.cache.sets * old.cache.ways + free.way in
-    let unpinned : (slot_at new.cache.slots k).pinned ≡ false = frames.pinned k ∙ free.unpinned in
+    let unpinned : (cache_slot_at new.cache.slots k).pinned ≡ false = frames.pinned k ∙ free.unpinned in
     let goes : may_go_at new page free.way ≡ true =
-    rw (frames.sets, frames.ways) (unpinned_goes new.window.posts (slot_at new.cache.slots k) posts unpinned) in
+    rw (frames.sets, frames.ways) (unpinned_goes new.window.posts (cache_slot_at new.cache.slots k) posts unpinned) in
     let size : length (values_of new.cache page) ≡ old.cache.ways =
     rw (frames.values, frames.sets) (sound.values.each (set_of old.cache page) (mod-lt page sound.sizes.some_sets)) in
     let found = some_way (chosen_way new page) (some_chosen (may_go_at new page) (values_of new.cache page) free.way (omega (arith, free.within)) goes) in
@@ -139,7 +139,7 @@ sealed_there flush slot is = rw is refl
 
 -- a slot is clean after the seal where it was soon to be
 sealed_soon : (page : ℕ) (old new : Parts) → (s : Sealing page old new) → (k : ℕ)
-    → soon_clean None (slot_at new.cache.slots k) ≡ soon_clean (Some s.seals.flush) (slot_at old.cache.slots k)
+    → soon_clean None (cache_slot_at new.cache.slots k) ≡ soon_clean (Some s.seals.flush) (cache_slot_at old.cache.slots k)
 sealed_soon page old new s k =
     let place : ℕ = s.ends.place in
     let slot : Slot = sealing_slot page old new s in
@@ -150,8 +150,8 @@ sealed_soon page old new s k =
           (sealed_here s.seals.flush slot (sealing_flush page old new s).0 own)
       | inr apart ↦
           rw (s.ends.is, get_or-set_other old.cache.slots place k (slot_flushed slot) empty_slot apart)
-          (sealed_there s.seals.flush (slot_at old.cache.slots k) (elim (cases_lt k (length old.cache.slots)) [
-            | inl within ↦ false_from_ne_true (holds (slot_at old.cache.slots k) s.seals.flush.page)
+          (sealed_there s.seals.flush (cache_slot_at old.cache.slots k) (elim (cases_lt k (length old.cache.slots)) [
+            | inl within ↦ false_from_ne_true (holds (cache_slot_at old.cache.slots k) s.seals.flush.page)
                 (λ twice. apart (s.cache.slots.unique k place s.seals.flush.page within s.ends.within twice own))
             | inr past ↦ rw (get_or_past old.cache.slots k empty_slot past) refl
           ]))

@@ -3,7 +3,7 @@ use Rattle.std.proofs.Common.{◌≡◌, ◌<◌, inl, inr, ℕ, ◌||◌, ◌�
 use Rattle.std.proofs.lemmas.Bool.{and_parts, cases_Bool, cases_eq, eq-eqb, not-true, eqb-true}
 use Rattle.ff_base.specs.declared.numbers.PageNo.{PageNo}
 use Rattle.ff_cache.specs.Cache.{IsCacheSound, IsInSet}
-use Rattle.ff_cache.specs.Slots.{held, holds, is_page, slot_at, slot_filled}
+use Rattle.ff_cache.specs.Slots.{held, holds, is_page, cache_slot_at, slot_filled}
 use Rattle.ff_cache.specs.declared.slot.Slot.{Slot}
 use Rattle.ff_lines.specs.Posts.{waits_in}
 use Rattle.ff_lines.specs.declared.post.Post.{Post}
@@ -21,14 +21,14 @@ pub record Fetching (page slot : ℕ) (old new : Parts) : Type 0 where
   pub in_range : page < length old.store.pages
   pub absent : held old.cache.slots page ≡ None
   pub place : IsInSet old.cache page slot
-  pub clean : (slot_at old.cache.slots slot).dirty ≡ false
-  pub goes : may_go old.window.posts (slot_at old.cache.slots slot) ≡ true
+  pub clean : (cache_slot_at old.cache.slots slot).dirty ≡ false
+  pub goes : may_go old.window.posts (cache_slot_at old.cache.slots slot) ≡ true
   pub idle : old.store.pending ≡ None
   pub fetched : IsFetched page slot old new
   pub capacity : new.store.capacity ≡ old.store.capacity
 
 abbrev gone_of : (slot : ℕ) (old : Parts) → Slot
-gone_of slot old = slot_at old.cache.slots slot
+gone_of slot old = cache_slot_at old.cache.slots slot
 
 pub fetching_replaced : (page slot : ℕ) (old new : Parts) → Fetching page slot old new
     → Replaced page (gone_of slot old) (slot_filled page (page_bytes old.store page)) old.cache.slots new.cache.slots

@@ -5,7 +5,7 @@ use Rattle.std.proofs.lemmas.Bool.{cases_eq}
 use Rattle.std.specs.Prelude.{option_map}
 use Rattle.ff_base.specs.declared.numbers.PageNo.{PageNo}
 use Rattle.ff_cache.specs.Cache.{all_below, first_of, is_full_set, values_of, way_at, CacheView, IsCacheSound}
-use Rattle.ff_cache.specs.Slots.{empty_slot, is_empty, slot_at}
+use Rattle.ff_cache.specs.Slots.{empty_slot, is_empty, cache_slot_at}
 use Rattle.ff_cache.specs.declared.slot.Slot.{Slot}
 use Rattle.ff_cache.proofs.Full.{all_below_at}
 use Rattle.ff_device.specs.Changes.{Changes}
@@ -19,7 +19,7 @@ use Rattle.ff_device.proofs.Oldest.{oldest_same}
 pub frames_by : (page : ℕ) (change : Slot → Slot) (old new : CacheView) → Changes page change old new
     → ((slot : Slot) → (change slot).page ≡ slot.page) → ((slot : Slot) → (change slot).pinned ≡ slot.pinned) → SameFrames old new
 frames_by page change old new changes pages pins =
-    let slot : Slot = slot_at old.slots changes.place in
+    let slot : Slot = cache_slot_at old.slots changes.place in
     record {
       values = ap (λ c. c.values) changes.is;
       sets = ap (λ c. c.sets) changes.is;
@@ -41,7 +41,7 @@ all_below_same f h (suc n) same = let rest = all_below_same f h n same in rw (re
 pub full_frames : (old new : CacheView) (page : ℕ) → SameFrames old new → is_full_set new page ≡ is_full_set old page
 full_frames old new page frames =
     rw (frames.sets, frames.ways) (all_below_same (λ way. not (is_empty (way_at old page way)))
-    (λ way. not (is_empty (slot_at new.slots (page % old.sets * old.ways + way)))) old.ways
+    (λ way. not (is_empty (cache_slot_at new.slots (page % old.sets * old.ways + way)))) old.ways
     (λ k. ap (λ (found : Option PageNo). not (is_none found)) (frames.page (page % old.sets * old.ways + k))))
 
 pub may_go_frames : (old new : Parts) (page way : ℕ) → SameFrames old.cache new.cache → new.window.posts ≡ old.window.posts
@@ -72,8 +72,8 @@ page_some None some none = cc
 page_some (Some page) some none = cc
 
 pub full_first : (cache : CacheView) (page first : ℕ) → IsCacheSound cache → is_full_set cache page ≡ true → first ≡ first_of cache page
-    → (slot_at cache.slots first).page ≡ None → ⊥
+    → (cache_slot_at cache.slots first).page ≡ None → ⊥
 full_first cache page first sound full is none =
     let place : first_of cache page + 0 ≡ first = omega arith in
-    page_some (slot_at cache.slots first).page
-    (ap (λ (k : ℕ). is_empty (slot_at cache.slots k)) (sym place) ∙ full_way cache page 0 full sound.sizes.some_ways) none
+    page_some (cache_slot_at cache.slots first).page
+    (ap (λ (k : ℕ). is_empty (cache_slot_at cache.slots k)) (sym place) ∙ full_way cache page 0 full sound.sizes.some_ways) none

@@ -3,7 +3,7 @@ use Rattle.std.proofs.Common.{◌≡◌, ◌≢◌, ◌<◌, inl, inr, ℕ, true
 use Rattle.std.proofs.lemmas.Bool.{cases_eq, false_from_ne_true}
 use Rattle.std.proofs.lemmas.List.Folds.{find_past}
 use Rattle.ff_cache.specs.Cache.{CacheView, IsCacheSound}
-use Rattle.ff_cache.specs.Slots.{empty_slot, held, holds, slot_at}
+use Rattle.ff_cache.specs.Slots.{empty_slot, held, holds, cache_slot_at}
 use Rattle.ff_cache.specs.declared.slot.Slot.{Slot}
 use Rattle.ff_cache.proofs.Held.{held_first, held_none, holds_one, none_holds}
 use Rattle.ff_device.specs.Changes.{Changes}
@@ -16,31 +16,31 @@ pub record Changed (page : ℕ) (slot after : Slot) (old new : List Slot) : Type
 
 -- a slot of the cache was changed, and holds the same page
 pub changed_at : (cache : CacheView) (page k : ℕ) (after : Slot) → IsCacheSound cache → k < length cache.slots
-    → holds (slot_at cache.slots k) page ≡ true → holds after page ≡ true → held cache.slots page ≡ Some (slot_at cache.slots k)
-    → Changed page (slot_at cache.slots k) after cache.slots (set cache.slots k after)
+    → holds (cache_slot_at cache.slots k) page ≡ true → holds after page ≡ true → held cache.slots page ≡ Some (cache_slot_at cache.slots k)
+    → Changed page (cache_slot_at cache.slots k) after cache.slots (set cache.slots k after)
 changed_at cache page k after sound within is also before =
     let slots : List Slot = cache.slots in
-    let same : slot_at (set slots k after) k ≡ after = get_or-set_same slots k after empty_slot within in
+    let same : cache_slot_at (set slots k after) k ≡ after = get_or-set_same slots k after empty_slot within in
     let size : length (set slots k after) ≡ length slots = length-set slots k after in
     let inside : k < length (set slots k after) = omega arith in
-    let found : held (set slots k after) page ≡ Some (slot_at (set slots k after) k) =
+    let found : held (set slots k after) page ≡ Some (cache_slot_at (set slots k after) k) =
     held_first (set slots k after) page k inside (rw same also) (λ j below.
     let apart : j ≢ k = omega arith in
-    rw (get_or-set_other slots k j after empty_slot apart) (false_from_ne_true (holds (slot_at slots j) page) (λ twice.
+    rw (get_or-set_other slots k j after empty_slot apart) (false_from_ne_true (holds (cache_slot_at slots j) page) (λ twice.
     let one : j ≡ k = sound.slots.unique j k page (omega arith) within twice is in absurd (omega arith)))) in
     record {
       before = before;
       here = found ∙ ap (λ (slot : Slot). Some slot) same;
       others = λ p apart. find_past (λ slot. holds slot p) slots k after empty_slot
-          (holds_one (slot_at slots k) page p is apart) (holds_one after page p also apart);
+          (holds_one (cache_slot_at slots k) page p is apart) (holds_one after page p also apart);
     }
 
 -- the slot of a page was changed in its place
 pub changed_by : (page : ℕ) (change : Slot → Slot) (old new : CacheView) → IsCacheSound old → (changes : Changes page change old new)
-    → (change (slot_at old.slots changes.place)).page ≡ (slot_at old.slots changes.place).page
-    → Changed page (slot_at old.slots changes.place) (change (slot_at old.slots changes.place)) old.slots new.slots
+    → (change (cache_slot_at old.slots changes.place)).page ≡ (cache_slot_at old.slots changes.place).page
+    → Changed page (cache_slot_at old.slots changes.place) (change (cache_slot_at old.slots changes.place)) old.slots new.slots
 changed_by page change old new sound changes same =
-    rw changes.is (changed_at old page changes.place (change (slot_at old.slots changes.place)) sound changes.within changes.holds
+    rw changes.is (changed_at old page changes.place (change (cache_slot_at old.slots changes.place)) sound changes.within changes.holds
     (rw same changes.holds) changes.held)
 
 -- a slot was filled with a page that was held nowhere
@@ -53,28 +53,28 @@ pub record Replaced (page : ℕ) (gone filled : Slot) (old new : List Slot) : Ty
 
 pub replaced_at : (cache : CacheView) (page k : ℕ) (filled : Slot) → IsCacheSound cache → k < length cache.slots
     → held cache.slots page ≡ None → holds filled page ≡ true
-    → Replaced page (slot_at cache.slots k) filled cache.slots (set cache.slots k filled)
+    → Replaced page (cache_slot_at cache.slots k) filled cache.slots (set cache.slots k filled)
 replaced_at cache page k filled sound within absent is =
     let slots : List Slot = cache.slots in
-    let same : slot_at (set slots k filled) k ≡ filled = get_or-set_same slots k filled empty_slot within in
+    let same : cache_slot_at (set slots k filled) k ≡ filled = get_or-set_same slots k filled empty_slot within in
     let size : length (set slots k filled) ≡ length slots = length-set slots k filled in
     let inside : k < length (set slots k filled) = omega arith in
-    let found : held (set slots k filled) page ≡ Some (slot_at (set slots k filled) k) =
+    let found : held (set slots k filled) page ≡ Some (cache_slot_at (set slots k filled) k) =
     held_first (set slots k filled) page k inside (rw same is) (λ j below.
     let apart : j ≢ k = omega arith in
     rw (get_or-set_other slots k j filled empty_slot apart) (none_holds slots page j absent (omega arith))) in
     record {
       absent = absent;
       here = found ∙ ap (λ (slot : Slot). Some slot) same;
-      was = λ p holds_it. held_first slots p k within holds_it (λ j below. false_from_ne_true (holds (slot_at slots j) p) (λ twice.
+      was = λ p holds_it. held_first slots p k within holds_it (λ j below. false_from_ne_true (holds (cache_slot_at slots j) p) (λ twice.
           let one : j ≡ k = sound.slots.unique j k p (omega arith) within twice holds_it in absurd (omega arith)));
       left = λ p holds_it. held_none (set slots k filled) p (λ j below. elim (cases_eq j k) [
         | inl one ↦
             rw (one, same) (holds_one filled page p is (λ e.
-            let nowhere : holds (slot_at slots k) page ≡ false = none_holds slots page k absent within in
-            let there : holds (slot_at slots k) page ≡ true = rw (sym e) holds_it in absurd (cc)))
+            let nowhere : holds (cache_slot_at slots k) page ≡ false = none_holds slots page k absent within in
+            let there : holds (cache_slot_at slots k) page ≡ true = rw (sym e) holds_it in absurd (cc)))
         | inr apart ↦
-            rw (get_or-set_other slots k j filled empty_slot apart) (false_from_ne_true (holds (slot_at slots j) p) (λ twice.
+            rw (get_or-set_other slots k j filled empty_slot apart) (false_from_ne_true (holds (cache_slot_at slots j) p) (λ twice.
             apart (sound.slots.unique j k p (omega arith) within twice holds_it)))
       ]);
       others = λ p apart not_gone. find_past (λ slot. holds slot p) slots k filled empty_slot not_gone (holds_one filled page p is apart);

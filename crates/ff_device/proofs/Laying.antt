@@ -3,7 +3,7 @@ use Rattle.std.proofs.Common.{◌≡◌, ◌≢◌, inl, inr, ℕ, ◌+◌, ◌=
 use Rattle.std.proofs.lemmas.Bool.{cases_eq, eq-eqb, ne_eqb, or_left, or_right}
 use Rattle.std.proofs.lemmas.List.Elements.{All-head, All-tail}
 use Rattle.ff_cache.specs.Cache.{CacheView, IsCacheSound}
-use Rattle.ff_cache.specs.Slots.{empty_slot, slot_at}
+use Rattle.ff_cache.specs.Slots.{empty_slot, cache_slot_at}
 use Rattle.ff_cache.specs.declared.slot.Slot.{Slot}
 use Rattle.ff_lines.specs.Posts.{laid_on, waits_in, IsPost}
 use Rattle.ff_lines.specs.declared.post.Post.{Post}
@@ -26,7 +26,7 @@ pub record Laying (post : Post) (old new : Parts) : Type 0 where
 
 -- the slot before, and what is known of it after
 abbrev slot_of : (post : Post) (old new : Parts) → Laying post old new → Slot
-slot_of post old new l = slot_at old.cache.slots l.lays.place
+slot_of post old new l = cache_slot_at old.cache.slots l.lays.place
 
 laying_changed : (post : Post) (old new : Parts) → (l : Laying post old new)
     → Changed post.page.0 (slot_of post old new l) (slot_after post (slot_of post old new l)) old.cache.slots new.cache.slots
@@ -172,11 +172,11 @@ laying_frames post old new changes = record {
   sets = ap (λ c. c.sets) changes.is;
   ways = ap (λ c. c.ways) changes.is;
   page = λ k. elim (cases_eq k changes.place) [
-    | inl same ↦ rw (changes.is, same, get_or-set_same old.slots changes.place (slot_after post (slot_at old.slots changes.place)) empty_slot changes.within) refl
-    | inr apart ↦ rw (changes.is, get_or-set_other old.slots changes.place k (slot_after post (slot_at old.slots changes.place)) empty_slot apart) refl
+    | inl same ↦ rw (changes.is, same, get_or-set_same old.slots changes.place (slot_after post (cache_slot_at old.slots changes.place)) empty_slot changes.within) refl
+    | inr apart ↦ rw (changes.is, get_or-set_other old.slots changes.place k (slot_after post (cache_slot_at old.slots changes.place)) empty_slot apart) refl
   ];
   pinned = λ k. elim (cases_eq k changes.place) [
-    | inl same ↦ rw (changes.is, same, get_or-set_same old.slots changes.place (slot_after post (slot_at old.slots changes.place)) empty_slot changes.within) refl
-    | inr apart ↦ rw (changes.is, get_or-set_other old.slots changes.place k (slot_after post (slot_at old.slots changes.place)) empty_slot apart) refl
+    | inl same ↦ rw (changes.is, same, get_or-set_same old.slots changes.place (slot_after post (cache_slot_at old.slots changes.place)) empty_slot changes.within) refl
+    | inr apart ↦ rw (changes.is, get_or-set_other old.slots changes.place k (slot_after post (cache_slot_at old.slots changes.place)) empty_slot apart) refl
   ];
 }

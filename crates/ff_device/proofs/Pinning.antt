@@ -2,7 +2,7 @@
 use Rattle.std.proofs.Common.{◌≡◌, inl, inr, ℕ, ◌+◌, Bool, length, refl, sym, ap, ◌∙◌}
 use Rattle.std.proofs.lemmas.Bool.{cases_eq, eq-eqb, ne_eqb}
 use Rattle.ff_cache.specs.Cache.{IsCacheSound}
-use Rattle.ff_cache.specs.Slots.{slot_at, slot_pinned}
+use Rattle.ff_cache.specs.Slots.{cache_slot_at, slot_pinned}
 use Rattle.ff_cache.specs.declared.slot.Slot.{Slot}
 use Rattle.ff_lines.specs.DeviceState.{IsPinned}
 use Rattle.ff_device.specs.Changes.{Changes}
@@ -19,7 +19,7 @@ pub record Pinning (page : ℕ) (on : Bool) (old new : Parts) : Type 0 where
   pub window : new.window ≡ old.window
 
 abbrev slot_of : (page : ℕ) (on : Bool) (old new : Parts) → Pinning page on old new → Slot
-slot_of page on old new p = slot_at old.cache.slots p.pins.place
+slot_of page on old new p = cache_slot_at old.cache.slots p.pins.place
 
 pinning_edited : (page : ℕ) (on : Bool) (old new : Parts) → (p : Pinning page on old new)
     → Edited page (slot_of page on old new p) (slot_pinned on (slot_of page on old new p)) old new

@@ -4,7 +4,7 @@ use Rattle.std.specs.Prelude.{IsSome}
 use Rattle.std.proofs.lemmas.Bool.{eq-eqb, eqb-true, or_cases, or_left}
 use Rattle.ff_base.specs.declared.numbers.PageNo.{PageNo}
 use Rattle.ff_cache.specs.Cache.{IsCacheSound}
-use Rattle.ff_cache.specs.Slots.{held, holds, slot_at, slot_flushing}
+use Rattle.ff_cache.specs.Slots.{held, holds, cache_slot_at, slot_flushing}
 use Rattle.ff_cache.specs.declared.slot.Slot.{Slot}
 use Rattle.ff_cache.proofs.Sets.{slot_of_page}
 use Rattle.ff_lines.specs.PageSets.{count_below, with_page}
@@ -21,13 +21,13 @@ pub record IsDirtySlot (slot : ℕ) (page : PageNo) (old : Parts) : Type 0 where
   pub sound : IsDeviceSound old
   pub cache : IsCacheSound old.cache
   pub within : slot < length old.cache.slots
-  pub is : (slot_at old.cache.slots slot).page ≡ Some page
-  pub dirty : (slot_at old.cache.slots slot).dirty ≡ true
+  pub is : (cache_slot_at old.cache.slots slot).page ≡ Some page
+  pub dirty : (cache_slot_at old.cache.slots slot).dirty ≡ true
 
-dirty_holds : (slot : ℕ) (page : PageNo) (old : Parts) → IsDirtySlot slot page old → holds (slot_at old.cache.slots slot) page.0 ≡ true
+dirty_holds : (slot : ℕ) (page : PageNo) (old : Parts) → IsDirtySlot slot page old → holds (cache_slot_at old.cache.slots slot) page.0 ≡ true
 dirty_holds slot page old d = rw d.is (eq-eqb page.0 page.0 refl)
 
-pub dirty_cached : (slot : ℕ) (page : PageNo) (old : Parts) → IsDirtySlot slot page old → cached old page.0 ≡ Some (slot_at old.cache.slots slot)
+pub dirty_cached : (slot : ℕ) (page : PageNo) (old : Parts) → IsDirtySlot slot page old → cached old page.0 ≡ Some (cache_slot_at old.cache.slots slot)
 dirty_cached slot page old d = (slot_of_page old.cache page.0 slot d.cache d.within (dirty_holds slot page old d)).held
 
 some_held : (o : Option Slot) (slot : Slot) → o ≡ Some slot → IsSome o
@@ -35,7 +35,7 @@ some_held None slot is = absurd (cc)
 some_held (Some found) slot is = refl
 
 pub dirty_held : (slot : ℕ) (page : PageNo) (old : Parts) → IsDirtySlot slot page old → IsSome (held old.cache.slots page.0)
-dirty_held slot page old d = some_held (held old.cache.slots page.0) (slot_at old.cache.slots slot) (dirty_cached slot page old d)
+dirty_held slot page old d = some_held (held old.cache.slots page.0) (cache_slot_at old.cache.slots slot) (dirty_cached slot page old d)
 
 pub dirty_in_range : (slot : ℕ) (page : PageNo) (old : Parts) → IsDirtySlot slot page old → page.0 < length old.store.pages
 dirty_in_range slot page old d = d.sound.pages page.0 (rw (dirty_cached slot page old d) refl)
@@ -67,17 +67,17 @@ pub record Programming (slot : ℕ) (page : PageNo) (old new : Parts) : Type 0 w
   pub window : new.window ≡ old.window
   pub pages : new.store.pages ≡ old.store.pages
   pub capacity : new.store.capacity ≡ old.store.capacity
-  pub pending : new.store.pending ≡ Some (record { page = page.0; bytes = (slot_at old.cache.slots slot).bytes })
+  pub pending : new.store.pending ≡ Some (record { page = page.0; bytes = (cache_slot_at old.cache.slots slot).bytes })
 
 -- it is the slot that was changed
 programming_same : (slot : ℕ) (page : PageNo) (old new : Parts) → (p : Programming slot page old new)
-    → slot_at old.cache.slots p.begins.place ≡ slot_at old.cache.slots slot
+    → cache_slot_at old.cache.slots p.begins.place ≡ cache_slot_at old.cache.slots slot
 programming_same slot page old new p =
-    let both : Some (slot_at old.cache.slots p.begins.place) ≡ Some (slot_at old.cache.slots slot) = sym p.begins.held ∙ dirty_cached slot page old p.slot_is in
+    let both : Some (cache_slot_at old.cache.slots p.begins.place) ≡ Some (cache_slot_at old.cache.slots slot) = sym p.begins.held ∙ dirty_cached slot page old p.slot_is in
     cc
 
 pub programming_edited : (slot : ℕ) (page : PageNo) (old new : Parts) → Programming slot page old new
-    → Edited page.0 (slot_at old.cache.slots slot) (slot_flushing (slot_at old.cache.slots slot)) old new
+    → Edited page.0 (cache_slot_at old.cache.slots slot) (slot_flushing (cache_slot_at old.cache.slots slot)) old new
 programming_edited slot page old new p =
     let c = rw (programming_same slot page old new p) at (changed_by page.0 slot_flushing old.cache new.cache p.slot_is.cache p.begins refl) in
     record {
@@ -93,7 +93,7 @@ programming_edited slot page old new p =
 pub programming_sound : (slot : ℕ) (page : PageNo) (old new : Parts) → Programming slot page old new → IsDeviceSound new
 programming_sound slot page old new p =
     let e = programming_edited slot page old new p in
-    let found : Slot = slot_at old.cache.slots slot in
+    let found : Slot = cache_slot_at old.cache.slots slot in
     edited_sound page.0 found (slot_flushing found) old new e p.slot_is.sound
     (λ clean. let both : true ≡ false = sym p.slot_is.dirty ∙ clean in absurd (cc))
     (λ flush is.

@@ -3,7 +3,7 @@ use Rattle.std.proofs.Common.{◌≡◌, ◌<◌, inl, inr, ℕ, suc, ◌+◌, �
 use Rattle.std.proofs.Math.Nat.{mod-lt}
 use Rattle.std.proofs.lemmas.Bool.{cases_eq}
 use Rattle.ff_cache.specs.Cache.{is_full_set, values_of, way_at, AreValues, IsCacheSound, IsInSet}
-use Rattle.ff_cache.specs.Slots.{held, slot_at}
+use Rattle.ff_cache.specs.Slots.{held, cache_slot_at}
 use Rattle.ff_cache.proofs.Sets.{set_fits}
 use Rattle.ff_device.specs.Parts.{IsDeviceSound, Parts}
 use Rattle.ff_device.specs.Steps.{chosen_way, may_go, steps_of_way, steps_to}
@@ -34,11 +34,11 @@ raising_place page slot old mid r =
     record { way = record { from = omega arith; to = omega arith }; within = omega arith }
 
 pub raising_way : (page slot : ℕ) (old mid : Parts) → (r : Raising page slot old mid)
-    → way_at old.cache page r.raised.chosen.way ≡ slot_at old.cache.slots slot
-raising_way page slot old mid r = ap (λ (k : ℕ). slot_at old.cache.slots k) (sym r.raised.chosen.place)
+    → way_at old.cache page r.raised.chosen.way ≡ cache_slot_at old.cache.slots slot
+raising_way page slot old mid r = ap (λ (k : ℕ). cache_slot_at old.cache.slots k) (sym r.raised.chosen.place)
 
 pub raising_goes : (page slot : ℕ) (old mid : Parts) → Raising page slot old mid
-    → may_go old.window.posts (slot_at old.cache.slots slot) ≡ true
+    → may_go old.window.posts (cache_slot_at old.cache.slots slot) ≡ true
 raising_goes page slot old mid r =
     rw (sym (raising_way page slot old mid r))
     (sym (r.raised.ways r.raised.chosen.way (raising_within page slot old mid r)) ∙ r.raised.chosen.victim.among.bit)

@@ -3,7 +3,7 @@ use Rattle.std.proofs.Common.{◌≡◌, ◌<◌, ℕ, ◌||◌, Bool, true, fal
 use Rattle.std.specs.Option.{is_some}
 use Rattle.std.specs.Prelude.{IsSome}
 use Rattle.ff_cache.specs.Cache.{IsCacheSound}
-use Rattle.ff_cache.specs.Slots.{held, slot_at, slot_flushed}
+use Rattle.ff_cache.specs.Slots.{held, cache_slot_at, slot_flushed}
 use Rattle.ff_cache.specs.declared.slot.Slot.{Slot}
 use Rattle.ff_lines.specs.Posts.{waits_in}
 use Rattle.ff_device.specs.Changes.{Changes}
@@ -33,7 +33,7 @@ pub record Sealing (page : ℕ) (old new : Parts) : Type 0 where
   pub capacity : new.store.capacity ≡ old.store.capacity
 
 abbrev pub sealing_slot : (page : ℕ) (old new : Parts) → Sealing page old new → Slot
-sealing_slot page old new s = slot_at old.cache.slots s.ends.place
+sealing_slot page old new s = cache_slot_at old.cache.slots s.ends.place
 
 sealing_within : (page : ℕ) (old new : Parts) → Sealing page old new → page < length old.store.pages
 sealing_within page old new s = rw (sym s.seals.page_is) (s.store.pending s.seals.flush s.seals.waited)

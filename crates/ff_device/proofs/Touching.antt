@@ -4,7 +4,7 @@ use Rattle.std.specs.Prelude.{if◌then◌else◌}
 use Rattle.std.proofs.lemmas.Bool.{lt-ltb}
 use Rattle.ff_base.specs.Page.{line_of}
 use Rattle.ff_cache.specs.Cache.{with_value, CacheView, IsSlotOf}
-use Rattle.ff_cache.specs.Slots.{slot_at}
+use Rattle.ff_cache.specs.Slots.{cache_slot_at}
 use Rattle.ff_lines.specs.DeviceState.{DeviceState, IsDrained, SameResidence}
 use Rattle.ff_rrip.specs.Ways.{near_value}
 use Rattle.ff_device.specs.DeviceFields.{lines_of}
@@ -63,7 +63,7 @@ hit_frames false page a b values frames h = h ∙ frames.values
 
 -- the line of the slot that holds the page
 pub cached_line : (parts : Parts) (page slot line : ℕ) → IsSlotOf parts.cache page slot → line < 64
-    → line_of (slot_at parts.cache.slots slot).bytes line ≡ line_below parts page line
+    → line_of (cache_slot_at parts.cache.slots slot).bytes line ≡ line_below parts page line
 cached_line parts page slot line is within = rw (is.held, lt-ltb line 64 within) refl
 
 -- it keeps what a device keeps

@@ -6,7 +6,7 @@ use Rattle.std.proofs.Math.Nat.{mod-lt}
 use Rattle.std.proofs.lemmas.Bool.{cases_Bool, eq-eqb}
 use Rattle.ff_base.specs.declared.numbers.PageNo.{PageNo}
 use Rattle.ff_cache.specs.Cache.{first_of, is_full_set, way_at, CacheView, IsCacheSound, IsEmptyWay, IsInSet}
-use Rattle.ff_cache.specs.Slots.{empty_slot, held, holds, slot_at, slot_flushed, slot_flushing}
+use Rattle.ff_cache.specs.Slots.{empty_slot, held, holds, cache_slot_at, slot_flushed, slot_flushing}
 use Rattle.ff_cache.specs.declared.slot.Slot.{Slot}
 use Rattle.ff_cache.proofs.Sets.{set_fits, slot_of_page}
 use Rattle.ff_lines.specs.Works.{KeepsLines, Works}
@@ -93,8 +93,8 @@ seal_row page (Pinned other) old new w s = absurd s
 -- what is asked of the slot of a fetch
 pub record IsPlace (page slot : ℕ) (old : Parts) : Type 0 where
   pub place : IsInSet old.cache page slot
-  pub clean : (slot_at old.cache.slots slot).dirty ≡ false
-  pub goes : may_go old.window.posts (slot_at old.cache.slots slot) ≡ true
+  pub clean : (cache_slot_at old.cache.slots slot).dirty ≡ false
+  pub goes : may_go old.window.posts (cache_slot_at old.cache.slots slot) ≡ true
   pub idle : old.store.pending ≡ None
 
 fetching_of : (page slot : ℕ) (old new : Parts) → Working page old new → IsPlace page slot old → IsFetched page slot old new
@@ -126,7 +126,7 @@ fetch_row page slot (Pinned other) old new w p f = absurd f
 -- what is asked of the slot of a flush: it is that of the chosen way
 pub record IsVictimSlot (page slot way : ℕ) (old : Parts) : Type 0 where
   pub within : slot < length old.cache.slots
-  pub dirty : (slot_at old.cache.slots slot).dirty ≡ true
+  pub dirty : (cache_slot_at old.cache.slots slot).dirty ≡ true
   pub place : slot ≡ first_of old.cache page + way
   pub chosen : chosen_way old page ≡ Some way
   pub full : is_full_set old.cache page ≡ true
@@ -147,21 +147,21 @@ programming_of page slot way old new w v p = record {
 programmed_soon : (page slot way : ℕ) (old new : Parts) → Working page old new → IsVictimSlot page slot way old → (p : IsProgrammed slot old new)
     → soon_clean new.store.pending (way_at new.cache page way) ≡ true
 programmed_soon page slot way old new w v p =
-    let own : holds (slot_at old.cache.slots slot) p.page.0 ≡ true = rw p.held (eq-eqb p.page.0 p.page.0 refl) in
+    let own : holds (cache_slot_at old.cache.slots slot) p.page.0 ≡ true = rw p.held (eq-eqb p.page.0 p.page.0 refl) in
     let same : p.cache.place ≡ slot =
     w.cache.slots.unique p.cache.place slot p.page.0 p.cache.within v.within p.cache.holds own in
     let there : first_of old.cache page + way ≡ p.cache.place = sym v.place ∙ sym same in
-    let found : Slot = slot_at old.cache.slots p.cache.place in
+    let found : Slot = cache_slot_at old.cache.slots p.cache.place in
     let way_is : way_at new.cache page way ≡ slot_flushing found =
     rw (p.cache.is, there, get_or-set_same old.cache.slots p.cache.place (slot_flushing found) empty_slot p.cache.within) refl in
-    rw (p.pending, way_is) (flushing_soon p.page.0 (slot_at old.cache.slots slot).bytes found p.cache.holds)
+    rw (p.pending, way_is) (flushing_soon p.page.0 (cache_slot_at old.cache.slots slot).bytes found p.cache.holds)
 
 programmed_row : (page slot way : ℕ) (old new : Parts) → Working page old new → IsVictimSlot page slot way old → IsProgrammed slot old new
     → Row page Stepped old new
 programmed_row page slot way old new w v p =
     let programming = programming_of page slot way old new w v p in
     let edited = programming_edited slot p.page old new programming in
-    let found : Slot = slot_at old.cache.slots slot in
+    let found : Slot = cache_slot_at old.cache.slots slot in
     let frames : SameFrames old.cache new.cache = frames_by p.page.0 slot_flushing old.cache new.cache p.cache (λ s. refl) (λ s. refl) in
     let still : held new.cache.slots page ≡ None =
     none_of (held new.cache.slots page)
@@ -212,7 +212,7 @@ raised_working page slot old mid new w r =
     } in
     rw r.raised.is known
 
-raised_place : (page slot : ℕ) (old mid : Parts) → Raising page slot old mid → (slot_at old.cache.slots slot).dirty ≡ false
+raised_place : (page slot : ℕ) (old mid : Parts) → Raising page slot old mid → (cache_slot_at old.cache.slots slot).dirty ≡ false
     → old.store.pending ≡ None → IsPlace page slot mid
 raised_place page slot old mid r clean idle =
     let place = raising_place page slot old mid r in
@@ -224,7 +224,7 @@ raised_place page slot old mid r clean idle =
     } in
     rw r.raised.is known
 
-raised_victim : (page slot : ℕ) (old mid : Parts) → (r : Raising page slot old mid) → (slot_at old.cache.slots slot).dirty ≡ true
+raised_victim : (page slot : ℕ) (old mid : Parts) → (r : Raising page slot old mid) → (cache_slot_at old.cache.slots slot).dirty ≡ true
     → old.store.pending ≡ None → is_full_set old.cache page ≡ true → IsVictimSlot page slot r.raised.chosen.way mid
 raised_victim page slot old mid r dirty idle full =
     let known : IsVictimSlot page slot r.raised.chosen.way (with_values mid.cache.values old) = record {
@@ -245,9 +245,9 @@ empty_unposted posts (Some page) is = absurd (cc)
 empty_place : (page slot : ℕ) (old : Parts) → IsCacheSound old.cache → old.store.pending ≡ None → IsEmptyWay old.cache page slot
     → IsPlace page slot old
 empty_place page slot old cache idle e =
-    let clean : (slot_at old.cache.slots slot).dirty ≡ false = cache.slots.clean slot e.empty in
-    let unpinned : (slot_at old.cache.slots slot).pinned ≡ false = cache.slots.unpinned slot e.empty in
-    let unposted = empty_unposted old.window.posts (slot_at old.cache.slots slot).page e.empty in
+    let clean : (cache_slot_at old.cache.slots slot).dirty ≡ false = cache.slots.clean slot e.empty in
+    let unpinned : (cache_slot_at old.cache.slots slot).pinned ≡ false = cache.slots.unpinned slot e.empty in
+    let unposted = empty_unposted old.window.posts (cache_slot_at old.cache.slots slot).page e.empty in
     record { place = e.in_set; clean = clean; goes = rw (unpinned, unposted) refl; idle = idle }
 
 pub works_row : (page : ℕ) (result : Work) (old new : Parts) → Working page old new → Row page result old new
@@ -333,12 +333,12 @@ step_promised page result old new w (flushes idle full slot mid raised dirty row
 -- the first row: a flush waits, a way is empty, none may give way, or one was chosen
 pub raised_step : (page slot : ℕ) (result : Work) (old mid new : Parts) → old.store.pending ≡ None → is_full_set old.cache page ≡ true
     → IsRaised page slot old mid
-    → ((slot_at mid.cache.slots slot).dirty ≡ true → FlushRow slot result mid new)
-    → ((slot_at mid.cache.slots slot).dirty ≡ false → FetchRow page slot result mid new)
+    → ((cache_slot_at mid.cache.slots slot).dirty ≡ true → FlushRow slot result mid new)
+    → ((cache_slot_at mid.cache.slots slot).dirty ≡ false → FetchRow page slot result mid new)
     → IsStep page old result new
 raised_step page slot result old mid new idle full raised dirty clean =
-    let same : slot_at mid.cache.slots slot ≡ slot_at old.cache.slots slot = ap (λ m. slot_at m.cache.slots slot) raised.is in
-    elim (cases_Bool (slot_at old.cache.slots slot).dirty) [
+    let same : cache_slot_at mid.cache.slots slot ≡ cache_slot_at old.cache.slots slot = ap (λ m. cache_slot_at m.cache.slots slot) raised.is in
+    elim (cases_Bool (cache_slot_at old.cache.slots slot).dirty) [
       | inl is ↦ flushes idle full slot mid raised is (dirty (ap (λ (s : Slot). s.dirty) same ∙ is))
       | inr is ↦ replaces idle full slot mid raised is (clean (ap (λ (s : Slot). s.dirty) same ∙ is))
     ]
@@ -351,12 +351,12 @@ chosen_place page slot old mid sound cache raised =
     rw raised.is (record { way = place.way; within = place.within })
 
 pub chosen_goes : (page slot : ℕ) (old mid : Parts) → IsDeviceSound old → IsCacheSound old.cache → IsRaised page slot old mid
-    → may_go mid.window.posts (slot_at mid.cache.slots slot) ≡ true
+    → may_go mid.window.posts (cache_slot_at mid.cache.slots slot) ≡ true
 chosen_goes page slot old mid sound cache raised =
     rw raised.is (raising_goes page slot old mid (record { sound = sound; cache = cache; raised = raised }))
 
 pub empty_goes : (page slot : ℕ) (old : Parts) → IsCacheSound old.cache → old.store.pending ≡ None → IsEmptyWay old.cache page slot
-    → ((slot_at old.cache.slots slot).dirty ≡ false) × (may_go old.window.posts (slot_at old.cache.slots slot) ≡ true)
+    → ((cache_slot_at old.cache.slots slot).dirty ≡ false) × (may_go old.window.posts (cache_slot_at old.cache.slots slot) ≡ true)
 empty_goes page slot old cache idle e = let p = empty_place page slot old cache idle e in (p.clean, p.goes)
 
 -- whether a flush waits

@@ -2,7 +2,7 @@
 use Rattle.std.specs.Prelude.{ℕ, ◌<◌, ◌≡◌, true, List, length, Option, Some, slice_set}
 use Rattle.ff_base.specs.declared.numbers.PageNo.{PageNo}
 use Rattle.ff_cache.specs.Cache.{CacheView}
-use Rattle.ff_cache.specs.Slots.{held, holds, slot_at, slot_written}
+use Rattle.ff_cache.specs.Slots.{held, holds, cache_slot_at, slot_written}
 use Rattle.ff_cache.specs.declared.slot.Slot.{Slot}
 use Rattle.ff_lines.specs.declared.post.Post.{Post}
 
@@ -10,9 +10,10 @@ use Rattle.ff_lines.specs.declared.post.Post.{Post}
 pub record Changes (page : ℕ) (change : Slot → Slot) (old new : CacheView) : Type 0 where
   pub place : ℕ
   pub within : place < length old.slots
-  pub holds : holds (slot_at old.slots place) page ≡ true
-  pub held : held old.slots page ≡ Some (slot_at old.slots place)
-  pub is : new ≡ record old { slots = slice_set old.slots place (change (slot_at old.slots place)) }
+  pub holds : holds (cache_slot_at old.slots place) page ≡ true
+  pub held : held old.slots page ≡ Some (cache_slot_at old.slots place)
+  pub is : new
+      ≡ record old { slots = slice_set old.slots place (change (cache_slot_at old.slots place)) }
 
 -- the slot with a post laid over its page
 abbrev pub slot_after : Post → Slot → Slot

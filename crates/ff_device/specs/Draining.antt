@@ -1,7 +1,7 @@
 -- What draining some of the waiting posts makes of a device.
 use Rattle.std.specs.Prelude.{ℕ, ◌≡◌, Bool, true, false, List, take, drop}
 use Rattle.ff_cache.specs.Cache.{with_value, CacheView}
-use Rattle.ff_cache.specs.Slots.{holds, slot_at}
+use Rattle.ff_cache.specs.Slots.{holds, cache_slot_at}
 use Rattle.ff_lines.specs.DeviceState.{DeviceState, SameResidence}
 use Rattle.ff_lines.specs.PageSets.{SameSet}
 use Rattle.ff_lines.specs.Posts.{laid}
@@ -21,13 +21,13 @@ pub record SameFrames (old new : CacheView) : Type 0 where
   pub values : new.values ≡ old.values
   pub sets : new.sets ≡ old.sets
   pub ways : new.ways ≡ old.ways
-  pub page : (k : ℕ) → (slot_at new.slots k).page ≡ (slot_at old.slots k).page
-  pub pinned : (k : ℕ) → (slot_at new.slots k).pinned ≡ (slot_at old.slots k).pinned
+  pub page : (k : ℕ) → (cache_slot_at new.slots k).page ≡ (cache_slot_at old.slots k).page
+  pub pinned : (k : ℕ) → (cache_slot_at new.slots k).pinned ≡ (cache_slot_at old.slots k).pinned
 
 -- the way that holds the page was used again
 pub record IsHit (page : ℕ) (old : CacheView) (values : List (List ℕ)) : Type 0 where
   pub slot : ℕ
-  pub holds : holds (slot_at old.slots slot) page ≡ true
+  pub holds : holds (cache_slot_at old.slots slot) page ≡ true
   pub is : values ≡ with_value old slot near_value
 
 -- the way that holds the page was used again, or the values are as before

@@ -3,7 +3,7 @@ use Rattle.std.specs.Prelude.{ℕ, ◌<◌, ◌≡◌, ◌⊎◌, true, false, N
 use Rattle.std.specs.Option.{is_some}
 use Rattle.ff_base.specs.declared.numbers.PageNo.{PageNo}
 use Rattle.ff_cache.specs.Cache.{is_full_set, way_at, with_value, IsChosen, IsEmptyWay}
-use Rattle.ff_cache.specs.Slots.{slot_at, slot_filled, slot_flushed, slot_flushing}
+use Rattle.ff_cache.specs.Slots.{cache_slot_at, slot_filled, slot_flushed, slot_flushing}
 use Rattle.ff_lines.specs.DeviceState.{IsDrained}
 use Rattle.ff_lines.specs.declared.device.Work.{Work}
 use Rattle.ff_lines.specs.declared.device.Work.TheVariants.{Ready, Stepped, Pinned, Failed, Off}
@@ -47,12 +47,12 @@ pub record IsFetched (page slot : ℕ) (old new : Parts) : Type 0 where
 -- the bytes of a slot were programmed
 pub record IsProgrammed (slot : ℕ) (old new : Parts) : Type 0 where
   pub page : PageNo
-  pub held : (slot_at old.cache.slots slot).page ≡ Some page
+  pub held : (cache_slot_at old.cache.slots slot).page ≡ Some page
   pub cache : Changes page.0 slot_flushing old.cache new.cache
   pub window : new.window ≡ old.window
   pub pages : new.store.pages ≡ old.store.pages
   pub pending : new.store.pending ≡ Some
-      (record { page = page.0; bytes = (slot_at old.cache.slots slot).bytes })
+      (record { page = page.0; bytes = (cache_slot_at old.cache.slots slot).bytes })
 
 -- the store made a collection step
 pub record IsCollected (old new : Parts) : Type 0 where
@@ -122,11 +122,11 @@ pub data IsStep (page : ℕ) (old : Parts) (result : Work) (new : Parts) : Type 
   no_way : old.store.pending ≡ None → is_full_set old.cache page ≡ true → chosen_way old page ≡ None
       → NoWayRow page result old new → IsStep page old result new
   replaces : old.store.pending ≡ None → is_full_set old.cache page ≡ true → (slot : ℕ) (mid : Parts)
-      → IsRaised page slot old mid → (slot_at old.cache.slots slot).dirty ≡ false
+      → IsRaised page slot old mid → (cache_slot_at old.cache.slots slot).dirty ≡ false
       → FetchRow page slot result mid new
       → IsStep page old result new
   flushes : old.store.pending ≡ None → is_full_set old.cache page ≡ true → (slot : ℕ) (mid : Parts)
-      → IsRaised page slot old mid → (slot_at old.cache.slots slot).dirty ≡ true
+      → IsRaised page slot old mid → (cache_slot_at old.cache.slots slot).dirty ≡ true
       → FlushRow slot result mid new
       → IsStep page old result new
 

@@ -13,10 +13,12 @@ pub record IsSeen (Passes : ℕ → Type 0) (steps : ℕ → ℕ) (seen frame : 
 -- the best of the frames seen, where there is one
 abbrev pub IsBestIf : (ℕ → Type 0) → (ℕ → ℕ) → (ℕ → ℕ) → Option Best → Type 0
 IsBestIf Passes score steps None = (frame : ℕ) → Passes frame → ⊥
-IsBestIf Passes score steps (Some best) = IsFirstLeast Passes score steps best.frame × (best.score ≡ score best.frame)
+IsBestIf Passes score steps (Some best) =
+    IsFirstLeast Passes score steps best.frame × (best.score ≡ score best.frame)
 
 -- the best of the first frames from the hand on
-abbrev pub IsBestOfFirst : ℕ → (Bool → ℕ → ℕ) → List Frame → List (Option Slot) → ℕ → Option Best → Type 0
+abbrev pub IsBestOfFirst : ℕ → (Bool → ℕ → ℕ) → List Frame → List (Option Slot) → ℕ → Option Best
+    → Type 0
 IsBestOfFirst seen score frames slots hand best =
-    IsBestIf (IsSeen (MayRetreat frames slots) (steps_after (length frames) hand) seen) (score_of score frames)
-    (steps_after (length frames) hand) best
+    IsBestIf (IsSeen (MayRetreat frames slots) (steps_after (length frames) hand) seen)
+    (score_of score frames) (steps_after (length frames) hand) best

@@ -13,7 +13,8 @@ pub record MayRetreat (frames : List Frame) (slots : List (Option Slot)) (frame 
 
 -- the score of a frame
 abbrev pub score_of : (Bool → ℕ → ℕ) → List Frame → ℕ → ℕ
-score_of score frames frame = score (frame_at frames frame).referred (count_ones (frame_at frames frame).dirty.0)
+score_of score frames frame =
+    score (frame_at frames frame).referred (count_ones (frame_at frames frame).dirty.0)
 
 -- how many frames after the hand a frame comes, round
 abbrev pub steps_after : ℕ → ℕ → ℕ → ℕ
@@ -28,7 +29,8 @@ pub record IsFirstLeast (Passes : ℕ → Type 0) (score steps : ℕ → ℕ) (f
 -- the frame whose page goes back
 abbrev pub IsChosenFrame : (Bool → ℕ → ℕ) → List Frame → List (Option Slot) → ℕ → ℕ → Type 0
 IsChosenFrame score frames slots hand frame =
-    IsFirstLeast (MayRetreat frames slots) (score_of score frames) (steps_after (length frames) hand) frame
+    IsFirstLeast (MayRetreat frames slots) (score_of score frames)
+    (steps_after (length frames) hand) frame
 
 -- no frame's page may go back
 abbrev pub IsNoneToRetreat : List Frame → List (Option Slot) → Type 0

@@ -21,7 +21,10 @@ given_frame frame = record frame { page = None }
 -- the frame after a store to a line
 abbrev pub written_frame : ℕ → ℕ → List ℕ → Frame → Frame
 written_frame line from piece frame =
-    record frame { bytes = page_overlaid frame.bytes line from piece; dirty = mask_with frame.dirty line }
+    record frame {
+      bytes = page_overlaid frame.bytes line from piece;
+      dirty = mask_with frame.dirty line;
+    }
 
 -- the frame after a line was copied into it
 abbrev pub filled_frame : ℕ → List ℕ → Frame → Frame

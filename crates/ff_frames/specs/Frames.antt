@@ -18,18 +18,18 @@ pub record AreFramesSound (frames : List Frame) : Type 0 where
   pub few : length frames < 2 ^ 32
 
 -- the frame is one of the list and holds no page
-pub record IsFree (frames : List Frame) (frame : ℕ) : Type 0 where
+pub record IsFreeFrame (frames : List Frame) (frame : ℕ) : Type 0 where
   pub in_range : frame < length frames
   pub no_page : (frame_at frames frame).page ≡ None
 
 -- the frame is free, and none before it is
 pub record IsLeastFree (frames : List Frame) (frame : ℕ) : Type 0 where
-  pub free : IsFree frames frame
+  pub free : IsFreeFrame frames frame
   pub least : (other : ℕ) → other < frame → (frame_at frames other).page ≢ None
 
 -- no frame is free
 abbrev pub IsNoneFree : List Frame → Type 0
-IsNoneFree frames = (frame : ℕ) → IsFree frames frame → ⊥
+IsNoneFree frames = (frame : ℕ) → IsFreeFrame frames frame → ⊥
 
 -- how many frames are free
 abbrev pub free_count : List Frame → ℕ

@@ -14,7 +14,8 @@ view_of f = f.frames.items
 pub record IsIndexed (frames : List Frame) (masks : List LineMask) (free : ℕ) : Type 0 where
   pub sound : AreFramesSound frames
   pub masked : length frames ≤ 64 * length masks
-  pub used : (frame : ℕ) → frame < length frames → is_used masks frame ≡ is_some (frame_at frames frame).page
+  pub used : (frame : ℕ) → frame < length frames
+      → is_used masks frame ≡ is_some (frame_at frames frame).page
   pub counted : free ≡ free_count frames
 
 -- what the fields keep

@@ -142,7 +142,8 @@ impl Frames {
     pub fn clean(&mut self, frame: u32, line: u8)
         requires frame { frame < length self.old }
         requires line { line < 64 }
-        ensures { self.new ≡ with_frame self.old frame (cleaned_frame line (frame_at self.old frame)) }
+        ensures { self.new
+            ≡ with_frame self.old frame (cleaned_frame line (frame_at self.old frame)) }
     {
         self.frames[frame as usize].clean(line);
     }
@@ -166,7 +167,8 @@ impl Frames {
     /// Sets or clears whether a frame was referred to.
     pub fn refer(&mut self, frame: u32, on: bool)
         requires { frame < length self.old }
-        ensures { self.new ≡ with_frame self.old frame (referred_frame on (frame_at self.old frame)) }
+        ensures { self.new
+            ≡ with_frame self.old frame (referred_frame on (frame_at self.old frame)) }
     {
         self.frames[frame as usize].refer(on);
     }

@@ -14,7 +14,7 @@ use Rattle.ff_plb.specs.Plb.{ArePagesApart, entry_if, entry_of, slot_at}
 use Rattle.ff_plb.specs.declared.slot.Slot.{Slot}
 use Rattle.ff_plb.specs.declared.slot.Way.TheVariants.{Coming, Leaving}
 use Rattle.ff_plb.proofs.Entries.{apart-same, entry-now, entry-other, entry_if-other}
-use Rattle.ff_table.specs.Table.{born_count, is_born, marks_of}
+use Rattle.ff_table.specs.Table.{born_count_in, is_born_in, marks_of}
 use Rattle.ff_memory.proofs.Flights.{IsEntryOf, entry-is, flies}
 use Rattle.ff_memory.proofs.Moves.{IsMove}
 use Rattle.ff_memory.proofs.Sites.{SameAt, one-page}
@@ -47,10 +47,10 @@ pub record IsFlightStep (m : MemoryView) (d : DeviceState) (k : ℕ) (s t : Slot
   pub resident : d'.resident s.page.0 ≡ true
   pub by_way : IsFlyingBy t.way (frame_at m'.frames s.frame) d' s.page.0 (home_at m' s.page.0) t
   pub dirty_born : (line : ℕ) → line < 64 → has_line (frame_at m'.frames s.frame).dirty line ≡ true
-      → is_born m'.table s.page.0 ≡ true
-  pub written_born : (q : ℕ) → d'.written q ≡ true → is_born m'.table q ≡ true
-  pub born_more : (q : ℕ) → is_born m.table q ≡ true → is_born m'.table q ≡ true
-  pub few_born : born_count m'.table ≤ m'.capacity
+      → is_born_in m'.table s.page.0 ≡ true
+  pub written_born : (q : ℕ) → d'.written q ≡ true → is_born_in m'.table q ≡ true
+  pub born_more : (q : ℕ) → is_born_in m.table q ≡ true → is_born_in m'.table q ≡ true
+  pub few_born : born_count_in m'.table ≤ m'.capacity
   pub room : d'.room ≡ m'.capacity
   pub pages : d'.pages ≡ length m'.table.homes
   pub marks : (q : ℕ) → marks_of m'.table q ≡ marks_of m.table q

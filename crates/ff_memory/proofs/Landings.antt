@@ -22,7 +22,7 @@ use Rattle.ff_plb.specs.declared.slot.Flight.{Flight}
 use Rattle.ff_plb.specs.declared.slot.Slot.{Slot}
 use Rattle.ff_plb.specs.declared.slot.Way.{Way}
 use Rattle.ff_plb.specs.declared.slot.Way.TheVariants.{Coming, Leaving}
-use Rattle.ff_table.specs.Table.{is_born}
+use Rattle.ff_table.specs.Table.{is_born_in}
 use Rattle.ff_table.specs.declared.table.Home.{Home}
 use Rattle.ff_memory.specs.Located.{IsFlyingBy}
 use Rattle.ff_memory.proofs.FlightMoves.{IsFlightStep, coming-line, flight-move, leaving-line, place-after, place-before}
@@ -191,7 +191,7 @@ landed_on_device-keeps m d k s flight m' d' e way flying is =
     let in_frames = held-within m.frames s.frame p fl.holds in
     let next : MemoryView = frame_set s.frame (cleaned_frame line) (slot_set k (Some t) m) in
     let now : frame_at next.frames s.frame ≡ new = get_or-set_same m.frames s.frame new free_frame in_frames in
-    let born : is_born m.table p ≡ true =
+    let born : is_born_in m.table p ≡ true =
     e.located.accounts.dirty_born s.frame p line within fl.holds (leaving.dirty line within flight_is.1) in
     let by_way = as-flying_out s.way new d' p (home_at m p) t way record {
       home_is = leaving.home_is;
@@ -214,7 +214,7 @@ landed_on_device-keeps m d k s flight m' d' e way flying is =
       by_way = rw now by_way;
       dirty_born = λ j low dirty. born;
       written_born = λ q written. elim (or_cases (q == p) (d.written q) (sym (is.device.written q) ∙ written)) [
-        | inl same ↦ ap (λ (i : ℕ). is_born m.table i) (eqb-true q p same) ∙ born
+        | inl same ↦ ap (λ (i : ℕ). is_born_in m.table i) (eqb-true q p same) ∙ born
         | inr before ↦ e.located.accounts.written_born q before
       ];
       born_more = λ q b. b;

@@ -10,7 +10,7 @@ use Rattle.ff_lines.specs.LineMask.{has_line}
 use Rattle.ff_memory.specs.Located.{IsLocated, IsSited}
 use Rattle.ff_memory.specs.Memory.{MemoryView, entry_at, home_at}
 use Rattle.ff_memory.specs.Places.{Holds, SamePlaces, frame_of_page, line_from, place, serving_frame}
-use Rattle.ff_table.specs.Table.{born_count, is_born, marks_of}
+use Rattle.ff_table.specs.Table.{born_count_in, is_born_in, marks_of}
 use Rattle.ff_memory.proofs.Sites.{SameAt, alike-same, serving-holds, sited-other}
 
 -- one page and one frame change, and the page's own facts hold again
@@ -26,10 +26,10 @@ pub record IsMove (p f : ℕ) (m : MemoryView) (d : DeviceState) (m' : MemoryVie
   pub used : (g : ℕ) → Holds m'.frames g p → frame_of_page (home_at m' p) (entry_at m' p) ≡ Some g
   pub pin : d'.pinned p ≡ is_some (entry_at m' p)
   pub dirty_born : (line : ℕ) → line < 64 → Holds m'.frames f p → has_line (frame_at m'.frames f).dirty line ≡ true
-      → is_born m'.table p ≡ true
-  pub written_born : (q : ℕ) → d'.written q ≡ true → is_born m'.table q ≡ true
-  pub born_more : (q : ℕ) → is_born m.table q ≡ true → is_born m'.table q ≡ true
-  pub few_born : born_count m'.table ≤ m'.capacity
+      → is_born_in m'.table p ≡ true
+  pub written_born : (q : ℕ) → d'.written q ≡ true → is_born_in m'.table q ≡ true
+  pub born_more : (q : ℕ) → is_born_in m.table q ≡ true → is_born_in m'.table q ≡ true
+  pub few_born : born_count_in m'.table ≤ m'.capacity
   pub room : d'.room ≡ m'.capacity
   pub pages : d'.pages ≡ length m'.table.homes
   pub marks : (q : ℕ) → marks_of m'.table q ≡ marks_of m.table q
@@ -81,7 +81,7 @@ move-pins p f m d m' d' located move q = elim (cases_eq q p) [
 
 move-dirty : (p f : ℕ) (m : MemoryView) (d : DeviceState) (m' : MemoryView) (d' : DeviceState) → IsLocated m d
     → IsMove p f m d m' d' → (frame q line : ℕ) → line < 64 → Holds m'.frames frame q
-    → has_line (frame_at m'.frames frame).dirty line ≡ true → is_born m'.table q ≡ true
+    → has_line (frame_at m'.frames frame).dirty line ≡ true → is_born_in m'.table q ≡ true
 move-dirty p f m d m' d' located move frame q line within holds dirty = elim (cases_eq frame f) [
   | inl here ↦
       let holds_f : Holds m'.frames f q = ap (λ (g : ℕ). (frame_at m'.frames g).page) (sym here) ∙ holds in

@@ -9,8 +9,8 @@ use Rattle.ff_lines.specs.PageSets.{count_below, with_page}
 use Rattle.ff_lines.proofs.PageCounts.{count_below-part}
 use Rattle.ff_memory.specs.Located.{IsLocated}
 use Rattle.ff_memory.specs.Memory.{MemoryView}
-use Rattle.ff_memory.specs.Stores.{is_refused}
-use Rattle.ff_table.specs.Table.{IsPageTableSound, PageTableView, born_count, is_born, with_born}
+use Rattle.ff_memory.specs.Stores.{is_store_refused}
+use Rattle.ff_table.specs.Table.{IsPageTableSound, PageTableView, born_count_in, is_born_in, with_born}
 
 -- the pages that are true in a list, counted by number and counted in the list
 count_below-take : (born : List Bool) (n : ℕ) → n ≤ length born
@@ -32,8 +32,8 @@ count_below-list born =
     count_below-take born (length born) (omega arith) ∙ ap (λ xs. count_by (λ b. b) xs) (take_all (length born) born (omega arith))
 
 -- a page that is born now, or was before
-pub born-more : (table : PageTableView) (page q : ℕ) → IsPageTableSound table → page < length table.homes → is_born table q ≡ true
-    → is_born (with_born page table) q ≡ true
+pub born-more : (table : PageTableView) (page q : ℕ) → IsPageTableSound table → page < length table.homes → is_born_in table q ≡ true
+    → is_born_in (with_born page table) q ≡ true
 born-more table page q sound within born = elim (cases_eq q page) [
   | inl same ↦
       let size = sound.born_or_not in
@@ -42,7 +42,7 @@ born-more table page q sound within born = elim (cases_eq q page) [
 ]
 
 pub born-now : (table : PageTableView) (page : ℕ) → IsPageTableSound table → page < length table.homes
-    → is_born (with_born page table) page ≡ true
+    → is_born_in (with_born page table) page ≡ true
 born-now table page sound within =
     let size = sound.born_or_not in get_or-set_same table.born page true false (omega arith)
 
@@ -56,34 +56,34 @@ count-set born page was within is =
 
 -- no more pages are born than may be
 pub few-born : (m : MemoryView) (d : DeviceState) (page : ℕ) → IsPageTableSound m.table → IsLocated m d
-    → page < length m.table.homes → is_refused m page ≡ false → born_count (with_born page m.table) ≤ m.capacity
+    → page < length m.table.homes → is_store_refused m page ≡ false → born_count_in (with_born page m.table) ≤ m.capacity
 few-born m d page sound located within allowed =
     let few = located.accounts.few_born in
     let size = sound.born_or_not in
     let in_list : page < length m.table.born = omega arith in
-    elim (and_cases (not (is_born m.table page)) (born_count m.table == m.capacity) allowed) [
+    elim (and_cases (not (is_born_in m.table page)) (born_count_in m.table == m.capacity) allowed) [
       | inl was ↦
-          let count = count-set m.table.born page true in_list (not-false (is_born m.table page) was) in omega (arith, count)
+          let count = count-set m.table.born page true in_list (not-false (is_born_in m.table page) was) in omega (arith, count)
       | inr below ↦
-          let less : born_count m.table ≢ m.capacity = eqb-false (born_count m.table) m.capacity below in
-          elim (cases_Bool (is_born m.table page)) [
+          let less : born_count_in m.table ≢ m.capacity = eqb-false (born_count_in m.table) m.capacity below in
+          elim (cases_Bool (is_born_in m.table page)) [
             | inl was ↦ let count = count-set m.table.born page true in_list was in omega (arith, count)
             | inr new ↦ let count = count-set m.table.born page false in_list new in omega (arith, count)
           ]
     ]
 
 pub with-born : (m : MemoryView) (d : DeviceState) (page q : ℕ) → IsPageTableSound m.table → IsLocated m d
-    → page < length m.table.homes → with_page page d.written q ≡ true → is_born (with_born page m.table) q ≡ true
+    → page < length m.table.homes → with_page page d.written q ≡ true → is_born_in (with_born page m.table) q ≡ true
 with-born m d page q sound located within is = elim (or_cases (q == page) (d.written q) is) [
   | inl same ↦
       let e : q ≡ page = eqb-true q page same in
-      ap (λ (k : ℕ). is_born (with_born page m.table) k) e ∙ born-now m.table page sound within
+      ap (λ (k : ℕ). is_born_in (with_born page m.table) k) e ∙ born-now m.table page sound within
   | inr written ↦ born-more m.table page q sound within (located.accounts.written_born q written)
 ]
 
 -- the device has room for a page that isn't refused
 pub has-room : (m : MemoryView) (d : DeviceState) (page : ℕ) → IsPageTableSound m.table → IsLocated m d
-    → page < length m.table.homes → is_refused m page ≡ false → HasRoom d page
+    → page < length m.table.homes → is_store_refused m page ≡ false → HasRoom d page
 has-room m d page sound located within allowed =
     let born : List Bool = set m.table.born page true in
     let part = count_below-part (with_page page d.written) (λ q. get_or born q false) (length born)
@@ -97,5 +97,5 @@ has-room m d page sound located within allowed =
     omega (arith, count, located.accounts.room)
 
 -- a page that is born isn't refused
-pub born-allowed : (m : MemoryView) (page : ℕ) → is_born m.table page ≡ true → is_refused m page ≡ false
+pub born-allowed : (m : MemoryView) (page : ℕ) → is_born_in m.table page ≡ true → is_store_refused m page ≡ false
 born-allowed m page born = rw born refl

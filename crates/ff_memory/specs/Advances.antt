@@ -26,7 +26,8 @@ pub record IsReady (m : MemoryView) (d : DeviceState) (slot : ℕ) (entry : Slot
   pub holds : Holds m.frames entry.frame entry.page.0
   pub resident : d.resident entry.page.0 ≡ true
   pub line : (flight : Flight) → entry.flight ≡ Some flight → flight.line < 64
-  pub room : (flight : Flight) → entry.way ≡ Leaving → entry.flight ≡ Some flight → HasRoom d entry.page.0
+  pub room : (flight : Flight) → entry.way ≡ Leaving → entry.flight ≡ Some flight
+      → HasRoom d entry.page.0
 
 -- the bytes of a line where it is copied from: the device's for a coming page, the frame's for a leaving one
 abbrev pub source_line : Way → MemoryView → DeviceState → Slot → ℕ → List ℕ
@@ -39,11 +40,13 @@ LiftsFrom Coming d d' = IsDrained d d'
 LiftsFrom Leaving d d' = d' ≡ d
 
 -- the least line that isn't copied is under way
-pub record IsLifted (slot : ℕ) (entry : Slot) (m : MemoryView) (d : DeviceState) (m' : MemoryView) (d' : DeviceState) : Type 0 where
+pub record IsLifted (slot : ℕ) (entry : Slot) (m : MemoryView) (d : DeviceState) (m' : MemoryView)
+    (d' : DeviceState) : Type 0 where
   pub line : ℕ
   pub least : IsLeastClear entry.bits line
   pub memory : m' ≡ slot_set slot
-      (Some (after_lift (record { line = line; bytes = source_line entry.way m d entry line }) entry)) m
+      (Some (after_lift
+      (record { line = line; bytes = source_line entry.way m d entry line }) entry)) m
   pub device : LiftsFrom entry.way d d'
 
 -- the memory after the last line of a page in flight was copied: a coming page is at home in its frame, a leaving one on
@@ -54,50 +57,66 @@ finished_by Leaving slot entry m =
     frame_set entry.frame given_frame (home_set entry.page.0 Ssd (slot_set slot None m))
 
 -- every line was copied: the page is at home where it was copied to, and pinned no more
-pub record IsFinished (slot : ℕ) (entry : Slot) (m : MemoryView) (d : DeviceState) (m' : MemoryView) (d' : DeviceState) : Type 0 where
+pub record IsFinished (slot : ℕ) (entry : Slot) (m : MemoryView) (d : DeviceState)
+    (m' : MemoryView) (d' : DeviceState) : Type 0 where
   pub all : HasEveryLine entry.bits
   pub memory : m' ≡ finished_by entry.way slot entry m
   pub device : IsPinned entry.page.0 false d d'
 
 -- a coming page's line landed in its frame
-pub record IsLandedInFrame (slot : ℕ) (entry : Slot) (flight : Flight) (m : MemoryView) (d : DeviceState) (m' : MemoryView) (d' : DeviceState) : Type 0 where
+pub record IsLandedInFrame (slot : ℕ) (entry : Slot) (flight : Flight) (m : MemoryView)
+    (d : DeviceState) (m' : MemoryView) (d' : DeviceState) : Type 0 where
   pub memory : m' ≡ frame_set entry.frame (filled_frame flight.line flight.bytes)
       (slot_set slot (Some (after_landing entry)) m)
   pub device : d' ≡ d
 
 -- a coming page's line was stored to meanwhile, and its flight is dropped
-pub record IsDropped (slot : ℕ) (entry : Slot) (m : MemoryView) (d : DeviceState) (m' : MemoryView) (d' : DeviceState) : Type 0 where
+pub record IsDropped (slot : ℕ) (entry : Slot) (m : MemoryView) (d : DeviceState) (m' : MemoryView)
+    (d' : DeviceState) : Type 0 where
   pub memory : m' ≡ slot_set slot (Some (after_landing entry)) m
   pub device : d' ≡ d
 
 -- a leaving page's line was posted, without a position in the history, and is clean in the frame
-pub record IsLandedOnDevice (slot : ℕ) (entry : Slot) (flight : Flight) (m : MemoryView) (d : DeviceState) (m' : MemoryView) (d' : DeviceState) : Type 0 where
+pub record IsLandedOnDevice (slot : ℕ) (entry : Slot) (flight : Flight) (m : MemoryView)
+    (d : DeviceState) (m' : MemoryView) (d' : DeviceState) : Type 0 where
   pub memory : m' ≡ frame_set entry.frame (cleaned_frame flight.line)
       (slot_set slot (Some (after_landing entry)) m)
   pub device : IsPosted
-      (record { page = entry.page; line = flight.line; from = 0; bytes = flight.bytes; position = None }) d d'
+      (record {
+        page = entry.page;
+        line = flight.line;
+        from = 0;
+        bytes = flight.bytes;
+        position = None;
+      })
+      d d'
 
 -- a flight's end, by the way of its page and by whether its line has its bit set
-abbrev pub LandsBy : Way → Bool → ℕ → Slot → Flight → MemoryView → DeviceState → What → MemoryView → DeviceState → Type 0
-LandsBy Coming true slot entry flight m d what m' d' = (what ≡ Dropped) × IsDropped slot entry m d m' d'
+abbrev pub LandsBy : Way → Bool → ℕ → Slot → Flight → MemoryView → DeviceState → What → MemoryView
+    → DeviceState → Type 0
+LandsBy Coming true slot entry flight m d what m' d' =
+    (what ≡ Dropped) × IsDropped slot entry m d m' d'
 LandsBy Coming false slot entry flight m d what m' d' =
     (what ≡ Landed) × IsLandedInFrame slot entry flight m d m' d'
 LandsBy Leaving copied slot entry flight m d what m' d' =
     (what ≡ Landed) × IsLandedOnDevice slot entry flight m d m' d'
 
 -- the step of an entry without a flight: it finishes, or its least line that isn't copied is lifted
-abbrev pub FinishesOrLifts : What → ℕ → Slot → MemoryView → DeviceState → MemoryView → DeviceState → Type 0
+abbrev pub FinishesOrLifts : What → ℕ → Slot → MemoryView → DeviceState → MemoryView → DeviceState
+    → Type 0
 FinishesOrLifts Finished slot entry m d m' d' = IsFinished slot entry m d m' d'
 FinishesOrLifts Lifted slot entry m d m' d' = IsLifted slot entry m d m' d'
 FinishesOrLifts what slot entry m d m' d' = ⊥
 
 -- the step of an entry, by its flight
-abbrev pub AdvancesBy : Option Flight → ℕ → Slot → MemoryView → DeviceState → What → MemoryView → DeviceState → Type 0
+abbrev pub AdvancesBy : Option Flight → ℕ → Slot → MemoryView → DeviceState → What → MemoryView
+    → DeviceState → Type 0
 AdvancesBy None slot entry m d what m' d' = FinishesOrLifts what slot entry m d m' d'
 AdvancesBy (Some flight) slot entry m d what m' d' =
     LandsBy entry.way (has_line entry.bits flight.line) slot entry flight m d what m' d'
 
 -- the step of the entry in a slot
-abbrev pub Advances : ℕ → Option Slot → MemoryView → DeviceState → What → MemoryView → DeviceState → Type 0
+abbrev pub Advances : ℕ → Option Slot → MemoryView → DeviceState → What → MemoryView → DeviceState
+    → Type 0
 Advances slot None m d what m' d' = ⊥
 Advances slot (Some entry) m d what m' d' = AdvancesBy entry.flight slot entry m d what m' d'

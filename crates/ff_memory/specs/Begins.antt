@@ -38,18 +38,26 @@ pub record IsDrainedAndPinned (page : ℕ) (d d' : DeviceState) : Type 0 where
   pub pinned : IsPinned page true mid d'
 
 -- a page began to come: it has the least free frame and the least empty slot, and no line is copied or dirty
-pub record IsPromoted (page : ℕ) (m : MemoryView) (d : DeviceState) (m' : MemoryView) (d' : DeviceState) : Type 0 where
+pub record IsPromoted (page : ℕ) (m : MemoryView) (d : DeviceState) (m' : MemoryView)
+    (d' : DeviceState) : Type 0 where
   pub frame : ℕ
   pub slot : ℕ
   pub least_frame : IsLeastFree m.frames frame
   pub least_slot : IsLeastEmpty m.slots slot
   pub memory : m' ≡ slot_set slot
-      (Some (record { page = numbered page; frame = frame; way = Coming; bits = no_lines; flight = None }))
+      (Some (record {
+        page = numbered page;
+        frame = frame;
+        way = Coming;
+        bits = no_lines;
+        flight = None;
+      }))
       (frame_set frame (taken_frame (numbered page)) m)
   pub device : IsDrainedAndPinned page d d'
 
 -- a page began to leave its frame: it has the least empty slot, and the lines that aren't dirty count as copied
-pub record IsRetreated (page : ℕ) (m : MemoryView) (d : DeviceState) (m' : MemoryView) (d' : DeviceState) : Type 0 where
+pub record IsRetreated (page : ℕ) (m : MemoryView) (d : DeviceState) (m' : MemoryView)
+    (d' : DeviceState) : Type 0 where
   pub frame : ℕ
   pub slot : ℕ
   pub home : home_at m page ≡ Host frame

@@ -11,13 +11,15 @@ use Rattle.ff_memory.specs.declared.access.Access.TheVariants.{Served}
 use Rattle.ff_memory.specs.declared.access.Side.TheVariants.{Neither}
 
 -- lines of a page were marked, after the window was drained
-pub record IsMarked (page lines : ℕ) (m : MemoryView) (d : DeviceState) (access : Access) (m' : MemoryView) (d' : DeviceState) : Type 0 where
+pub record IsMarked (page lines : ℕ) (m : MemoryView) (d : DeviceState) (access : Access)
+    (m' : MemoryView) (d' : DeviceState) : Type 0 where
   pub access_is : access ≡ Served Done Neither
   pub memory : m' ≡ marks_set page lines true m
   pub device : IsDrained d d'
 
 -- a mark, by whether the page is home
-abbrev pub IsMarkBy : Bool → ℕ → ℕ → MemoryView → DeviceState → Access → MemoryView → DeviceState → Type 0
+abbrev pub IsMarkBy : Bool → ℕ → ℕ → MemoryView → DeviceState → Access → MemoryView → DeviceState
+    → Type 0
 IsMarkBy true page lines m d access m' d' = IsMarked page lines m d access m' d'
 IsMarkBy false page lines m d access m' d' = IsMissed page m d access m' d'
 
@@ -27,13 +29,16 @@ is_between from to frame = nat_le from frame && nat_lt frame to
 
 -- the frame lies from one up to the one before another, round
 abbrev pub is_passed : ℕ → ℕ → ℕ → Bool
-is_passed from to frame = if nat_le from to then is_between from to frame else nat_le from frame || nat_lt frame to
+is_passed from to frame =
+    if nat_le from to then is_between from to frame else nat_le from frame || nat_lt frame to
 
 -- the referred flags of these frames were cleared, and nothing else changed
 pub record IsUnreferred (these : ℕ → Bool) (m m' : MemoryView) : Type 0 where
   pub frames : (frame : ℕ) → frame < length m.frames
       → frame_at m'.frames frame
-      ≡ (if these frame then referred_frame false (frame_at m.frames frame) else frame_at m.frames frame)
+      ≡ (if these frame
+      then referred_frame false (frame_at m.frames frame)
+      else frame_at m.frames frame)
   pub size : length m'.frames ≡ length m.frames
   pub table : m'.table ≡ m.table
   pub slots : m'.slots ≡ m.slots

@@ -46,7 +46,8 @@ entry_at m page = entry_of m.slots page
 
 -- the memory with a frame changed
 abbrev pub frame_set : ℕ → (Frame → Frame) → MemoryView → MemoryView
-frame_set frame change m = record m { frames = with_frame m.frames frame (change (frame_at m.frames frame)) }
+frame_set frame change m =
+    record m { frames = with_frame m.frames frame (change (frame_at m.frames frame)) }
 
 -- the memory with a slot of the buffer changed
 abbrev pub slot_set : ℕ → Option Slot → MemoryView → MemoryView

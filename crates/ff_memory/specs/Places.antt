@@ -35,7 +35,8 @@ store_in_flight Leaving frame copied = frame_in_flight Leaving frame copied
 -- the frame that a store to a line goes to
 abbrev pub store_frame_for : Home → Option Slot → ℕ → Option ℕ
 store_frame_for home None line = frame_for home None line
-store_frame_for home (Some entry) line = store_in_flight entry.way entry.frame (has_line entry.bits line)
+store_frame_for home (Some entry) line =
+    store_in_flight entry.way entry.frame (has_line entry.bits line)
 
 -- the frame that serves a line of a page
 abbrev pub serving_frame : MemoryView → ℕ → ℕ → Option ℕ

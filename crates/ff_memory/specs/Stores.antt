@@ -12,7 +12,7 @@ use Rattle.ff_plb.specs.Slot.{after_store}
 use Rattle.ff_plb.specs.declared.slot.Slot.{Slot}
 use Rattle.ff_plb.specs.declared.slot.Way.{Way}
 use Rattle.ff_plb.specs.declared.slot.Way.TheVariants.{Coming, Leaving}
-use Rattle.ff_table.specs.Table.{born_count, is_born, with_born}
+use Rattle.ff_table.specs.Table.{born_count_in, is_born_in, with_born}
 use Rattle.ff_memory.specs.Loads.{IsMissed}
 use Rattle.ff_memory.specs.Located.{IsLocated}
 use Rattle.ff_memory.specs.Memory.{IsMemorySound, MemoryView, born_set, entry_at, numbered}
@@ -22,18 +22,19 @@ use Rattle.ff_memory.specs.declared.access.Access.TheVariants.{Served}
 use Rattle.ff_memory.specs.declared.access.Side.TheVariants.{Device, Host, Neither}
 
 -- a store to the page is refused: it isn't born, and as many pages as may be are
-abbrev pub is_refused : MemoryView → ℕ → Bool
-is_refused m page = not (is_born m.table page) && (born_count m.table == m.capacity)
+abbrev pub is_store_refused : MemoryView → ℕ → Bool
+is_store_refused m page = not (is_born_in m.table page) && (born_count_in m.table == m.capacity)
 
 -- what a store that isn't refused finds: a line of one of the pages, a piece that fits, and the facts
-pub record IsStoreGiven (page line from : ℕ) (piece : List ℕ) (m : MemoryView) (d : DeviceState) : Type 0 where
+pub record IsStoreGiven (page line from : ℕ) (piece : List ℕ) (m : MemoryView)
+    (d : DeviceState) : Type 0 where
   pub sound : IsMemorySound m
   pub device : IsDevice d
   pub located : IsLocated m d
   pub within : page < length m.table.homes
   pub low : line < 64
   pub fits : from + length piece ≤ 64
-  pub allowed : is_refused m page ≡ false
+  pub allowed : is_store_refused m page ≡ false
 
 -- whether a store to a line of a page in flight carries the rest of the line: the page is coming, the line isn't copied and
 -- the piece isn't a whole line
@@ -59,7 +60,8 @@ stored_frame line from piece frame = referred_frame true (written_frame line fro
 abbrev pub HitsEntry : Option Slot → ℕ → List (Option Slot) → List (Option Slot) → Type 0
 HitsEntry None line old new = new ≡ old
 HitsEntry (Some entry) line old new =
-    (slot : ℕ) × HasEntry old slot entry × (new ≡ with_slot old slot (Some (after_store line entry)))
+    (slot : ℕ) × HasEntry old slot entry
+    × (new ≡ with_slot old slot (Some (after_store line entry)))
 
 -- the window was drained, where a line was carried; else nothing was done
 abbrev pub DrainsIf : Bool → DeviceState → DeviceState → Type 0
@@ -67,50 +69,67 @@ DrainsIf true d d' = IsDrained d d'
 DrainsIf false d d' = d' ≡ d
 
 -- a store that a frame served
-pub record IsFrameStore (frame page line from : ℕ) (piece : List ℕ) (m : MemoryView) (d : DeviceState) (access : Access) (m' : MemoryView) (d' : DeviceState) : Type 0 where
+pub record IsFrameStore (frame page line from : ℕ) (piece : List ℕ) (m : MemoryView)
+    (d : DeviceState) (access : Access) (m' : MemoryView) (d' : DeviceState) : Type 0 where
   pub access_is : access ≡ Served Done Host
   pub frames : m'.frames ≡ with_frame m.frames frame
       (stored_frame line from piece
-      (carried_frame (carries (entry_at m page) line (length piece)) line (line_at d page line) (frame_at m.frames frame)))
+      (carried_frame (carries (entry_at m page) line (length piece)) line
+      (line_at d page line) (frame_at m.frames frame)))
   pub table : m'.table ≡ with_born page m.table
   pub slots : HitsEntry (entry_at m page) line m.slots m'.slots
   pub capacity : m'.capacity ≡ m.capacity
   pub device : DrainsIf (carries (entry_at m page) line (length piece)) d d'
 
 -- a store that was posted
-pub record IsDeviceStore (page line from : ℕ) (piece : List ℕ) (position : ℕ) (m : MemoryView) (d : DeviceState) (access : Access) (m' : MemoryView) (d' : DeviceState) : Type 0 where
+pub record IsDeviceStore (page line from : ℕ) (piece : List ℕ) (position : ℕ) (m : MemoryView)
+    (d : DeviceState) (access : Access) (m' : MemoryView) (d' : DeviceState) : Type 0 where
   pub access_is : access ≡ Served Done Device
   pub memory : m' ≡ born_set page m
   pub device : IsPosted
-      (record { page = numbered page; line = line; from = from; bytes = piece; position = Some position }) d d'
+      (record {
+        page = numbered page;
+        line = line;
+        from = from;
+        bytes = piece;
+        position = Some position;
+      })
+      d d'
 
 -- a store that was refused
-pub record IsRefused (m : MemoryView) (d : DeviceState) (access : Access) (m' : MemoryView) (d' : DeviceState) : Type 0 where
+pub record IsRefused (m : MemoryView) (d : DeviceState) (access : Access) (m' : MemoryView)
+    (d' : DeviceState) : Type 0 where
   pub access_is : access ≡ Served Full Neither
   pub memory : m' ≡ m
   pub device : d' ≡ d
 
 -- a store, by whether it is refused, by the frame that it goes to and by whether the page is resident
-abbrev pub IsStoreBy : Bool → Option ℕ → Bool → ℕ → ℕ → ℕ → List ℕ → ℕ → MemoryView → DeviceState → Access → MemoryView → DeviceState → Type 0
-IsStoreBy true to resident page line from piece position m d access m' d' = IsRefused m d access m' d'
+abbrev pub IsStoreBy : Bool → Option ℕ → Bool → ℕ → ℕ → ℕ → List ℕ → ℕ → MemoryView → DeviceState
+    → Access → MemoryView → DeviceState → Type 0
+IsStoreBy true to resident page line from piece position m d access m' d' =
+    IsRefused m d access m' d'
 IsStoreBy false (Some frame) resident page line from piece position m d access m' d' =
     IsFrameStore frame page line from piece m d access m' d'
 IsStoreBy false None true page line from piece position m d access m' d' =
     IsDeviceStore page line from piece position m d access m' d'
-IsStoreBy false None false page line from piece position m d access m' d' = IsMissed page m d access m' d'
+IsStoreBy false None false page line from piece position m d access m' d' =
+    IsMissed page m d access m' d'
 
 -- a store of a piece to a line, from a place on
-abbrev pub IsStore : ℕ → ℕ → ℕ → List ℕ → ℕ → MemoryView → DeviceState → Access → MemoryView → DeviceState → Type 0
+abbrev pub IsStore : ℕ → ℕ → ℕ → List ℕ → ℕ → MemoryView → DeviceState → Access → MemoryView
+    → DeviceState → Type 0
 IsStore page line from piece position m d access m' d' =
-    IsStoreBy (is_refused m page) (storing_frame m page line) (d.resident page) page line from piece position
-    m d access m' d'
+    IsStoreBy (is_store_refused m page) (storing_frame m page line) (d.resident page)
+    page line from piece position m d access m' d'
 
 -- a piece stands in its line, and every other line is as before
-pub record IsStored (page line from : ℕ) (piece : List ℕ) (m : MemoryView) (d : DeviceState) (m' : MemoryView) (d' : DeviceState) : Type 0 where
+pub record IsStored (page line from : ℕ) (piece : List ℕ) (m : MemoryView) (d : DeviceState)
+    (m' : MemoryView) (d' : DeviceState) : Type 0 where
   pub here : place m' d' page line ≡ overlaid (place m d page line) from piece
   pub others : (q j : ℕ) → j < 64 → (q ≡ page → j ≢ line) → place m' d' q j ≡ place m d q j
 
 -- what a store's answer says of the lines
-abbrev pub StoresBy : Access → ℕ → ℕ → ℕ → List ℕ → MemoryView → DeviceState → MemoryView → DeviceState → Type 0
+abbrev pub StoresBy : Access → ℕ → ℕ → ℕ → List ℕ → MemoryView → DeviceState → MemoryView
+    → DeviceState → Type 0
 StoresBy (Served Done side) page line from piece m d m' d' = IsStored page line from piece m d m' d'
 StoresBy access page line from piece m d m' d' = SamePlaces m d m' d'

@@ -50,7 +50,8 @@ impl Memory {
 
     fn finish_or_lift<D: LineDevice>(&mut self, d: &mut D, slot: u32, entry: &Slot) -> What
         requires { IsReady self.old (D.state d.old) slot entry.now }
-        ensures step { FinishesOrLifts result slot entry.now self.old (D.state d.old) self.new (D.state d.new) }
+        ensures step { FinishesOrLifts result slot entry.now
+            self.old (D.state d.old) self.new (D.state d.new) }
         ensures own { D.own d.new ≡ D.own d.old }
     {
         match entry.bits.first_clear() {
@@ -106,7 +107,10 @@ impl Memory {
         requires line { line < 64 }
         ensures memory { self.new ≡ slot_set slot
             (Some (after_lift
-            (record { line = line; bytes = source_line entry.now.way self.old (D.state d.old) entry.now line })
+            (record {
+              line = line;
+              bytes = source_line entry.now.way self.old (D.state d.old) entry.now line;
+            })
             entry.now))
             self.old }
         ensures device { LiftsFrom entry.now.way (D.state d.old) (D.state d.new) }
@@ -122,8 +126,8 @@ impl Memory {
     fn land<D: LineDevice>(&mut self, d: &mut D, slot: u32, entry: &Slot, flight: &Flight) -> What
         requires ready { IsReady self.old (D.state d.old) slot entry.now }
         requires flight { entry.now.flight ≡ Some flight.now }
-        ensures step { LandsBy entry.now.way (has_line entry.now.bits flight.now.line) slot entry.now flight.now
-            self.old (D.state d.old) result self.new (D.state d.new) }
+        ensures step { LandsBy entry.now.way (has_line entry.now.bits flight.now.line)
+            slot entry.now flight.now self.old (D.state d.old) result self.new (D.state d.new) }
         ensures own { D.own d.new ≡ D.own d.old }
     {
         match entry.way {
@@ -137,8 +141,8 @@ impl Memory {
         requires frame { entry.now.frame < length self.old.frames }
         requires flight { entry.now.flight ≡ Some flight.now }
         requires line { flight.now.line < 64 }
-        ensures { (d : _) → LandsBy Coming (has_line entry.now.bits flight.now.line) slot entry.now flight.now
-            self.old d result self.new d }
+        ensures { (d : _) → LandsBy Coming (has_line entry.now.bits flight.now.line)
+            slot entry.now flight.now self.old d result self.new d }
     {
         match self.plb.land(slot) {
             Landing::Dropped => What::Dropped,

@@ -109,8 +109,10 @@ impl Memory {
     pub fn turn_back(&mut self, slot: u32)
         requires { IsComingSlot self.old slot }
         ensures step { self.new ≡ turned_at slot self.old }
-        ensures located { (d : DeviceState) → IsDevice d → IsLocated self.old d → IsLocated self.new d }
-        ensures place { (d : DeviceState) → IsDevice d → IsLocated self.old d → SamePlaces self.old d self.new d }
+        ensures located { (d : DeviceState) → IsDevice d → IsLocated self.old d
+            → IsLocated self.new d }
+        ensures place { (d : DeviceState) → IsDevice d → IsLocated self.old d
+            → SamePlaces self.old d self.new d }
     {
         self.known();
         let entry = self.plb.entry(slot);
@@ -123,7 +125,8 @@ impl Memory {
         requires page { entry.now.page.0 < length self.old.table.homes }
         ensures memory { self.new ≡ home_set entry.now.page.0 (Home.Host entry.now.frame)
             (slot_set slot (Some (after_turn dirty entry.now)) self.old) }
-        ensures copied { (line : ℕ) → line < 64 → has_line (mask_others dirty) line ≡ not (has_line dirty line) }
+        ensures copied { (line : ℕ) → line < 64
+            → has_line (mask_others dirty) line ≡ not (has_line dirty line) }
     {
         self.plb.turn_back(slot, dirty);
         self.table.set_home(entry.page, Home::Host(entry.frame));

@@ -54,7 +54,8 @@ impl Memory {
         requires line { at.line < 64 }
         requires span { at.from + len ≤ 64 }
         ensures access { result ≡ Access.Served
-            (Reply.Bytes (slice_range (line_of (frame_at self.old.frames frame).bytes at.line) at.from (at.from + len)))
+            (Reply.Bytes (slice_range (line_of (frame_at self.old.frames frame).bytes at.line)
+            at.from (at.from + len)))
             Side.Host }
         ensures memory { self.new ≡ frame_set frame (referred_frame true) self.old }
     {

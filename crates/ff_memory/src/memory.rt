@@ -35,7 +35,8 @@ impl Memory {
 
     /// A memory of these parts, in which at most `capacity` pages may be born.
     pub fn new(frames: Frames, table: Table, plb: Plb, capacity: u32) -> Memory
-        ensures { result ≡ record { frames = frames; table = table; slots = plb; capacity = capacity } }
+        ensures { result
+            ≡ record { frames = frames; table = table; slots = plb; capacity = capacity } }
     {
         Memory {
             frames,

@@ -7,7 +7,7 @@ ghost use Rattle.ff_memory.specs.Advances.{IsReady};
 ghost use Rattle.ff_memory.specs.Located.{IsLocated};
 ghost use Rattle.ff_memory.specs.Memory.{born_set, entry_at, frame_set, home_at};
 ghost use Rattle.ff_memory.specs.Places.{frame_for, line_in_page, page_of, place_in_line, storing_frame};
-ghost use Rattle.ff_memory.specs.Stores.{DrainsIf, IsFrameStore, IsStore, IsStoreBy, IsStoreGiven, StoresBy, carried_frame, carries, is_refused, stored_frame};
+ghost use Rattle.ff_memory.specs.Stores.{DrainsIf, IsFrameStore, IsStore, IsStoreBy, IsStoreGiven, StoresBy, carried_frame, carries, is_store_refused, stored_frame};
 
 use crate::access::{Access, Side};
 use crate::memory::Memory;
@@ -69,7 +69,7 @@ impl Memory {
     // Whether a store to the page is refused.
     fn refuses(&self, page: PageNo) -> bool
         requires { page.0 < length self.now.table.homes }
-        ensures { result ≡ is_refused self.now page.0 }
+        ensures { result ≡ is_store_refused self.now page.0 }
     {
         !self.table.is_born(page) && self.table.born() == self.capacity
     }
@@ -157,9 +157,11 @@ impl Memory {
         requires frame { entry.now.frame < length self.old.frames }
         requires resident { (D.state d.old).resident entry.now.page.0 ≡ true }
         ensures memory { self.new ≡ frame_set entry.now.frame
-            (carried_frame (carries (Some entry.now) line size) line (line_at (D.state d.old) entry.now.page.0 line))
+            (carried_frame (carries (Some entry.now) line size) line
+            (line_at (D.state d.old) entry.now.page.0 line))
             self.old }
-        ensures device { DrainsIf (carries (Some entry.now) line size) (D.state d.old) (D.state d.new) }
+        ensures device { DrainsIf (carries (Some entry.now) line size)
+            (D.state d.old) (D.state d.new) }
         ensures own { D.own d.new ≡ D.own d.old }
     {
         if carries(entry.way, entry.bits.has(line), size) {

@@ -1,3 +1,4 @@
+pub mod NextStep
 pub mod Plb
 pub mod PlbFields
 pub mod Slot

@@ -24,8 +24,8 @@ entry_of (slot ∷ later) page = option_or (entry_if slot page) (entry_of later 
 
 -- what a buffer keeps: no page has two entries
 pub record ArePagesApart (slots : List (Option Slot)) : Type 0 where
-  pub apart : (i j : ℕ) (one other : Slot) → slot_at slots i ≡ Some one → slot_at slots j ≡ Some other
-      → one.page.0 ≡ other.page.0 → i ≡ j
+  pub apart : (i j : ℕ) (one other : Slot) → slot_at slots i ≡ Some one
+      → slot_at slots j ≡ Some other → one.page.0 ≡ other.page.0 → i ≡ j
   pub few : length slots < 2 ^ 32
 
 -- the slot has this entry

@@ -20,7 +20,8 @@ landing_of flight entry = if has_line entry.bits flight.line then Dropped else L
 -- an entry after this flight's end: the line's bit is set
 abbrev pub landed_with : Option Flight → Slot → Slot
 landed_with None entry = entry
-landed_with (Some flight) entry = record entry { bits = mask_with entry.bits flight.line; flight = None }
+landed_with (Some flight) entry =
+    record entry { bits = mask_with entry.bits flight.line; flight = None }
 
 -- an entry after its flight's end
 abbrev pub after_landing : Slot → Slot

@@ -8,4 +8,4 @@ mod slot;
 mod tests;
 
 pub use plb::Plb;
-pub use slot::{Flight, Landing, Slot, Way};
+pub use slot::{Flight, Landing, NextStep, Slot, Way};

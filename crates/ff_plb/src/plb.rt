@@ -1,10 +1,11 @@
 // The slots of the buffer.
 ghost use Rattle.std.specs.Prelude.{ℕ, ◌≡◌, ◌≢◌, ◌<◌, ◌^◌, ◌↔◌, not, IfOk, IfSome, IsSome, IsTrue, MatchOption, None, Some, option_copied, option_map, replicate, length};
 ghost use Rattle.ff_lines.specs.LineMask.{has_line, mask_others};
+ghost use Rattle.ff_plb.specs.NextStep.{IsLeastNext, IsNextIn, IsNoneNext};
 ghost use Rattle.ff_plb.specs.Plb.{ArePagesApart, HasEntry, HasFlight, IsEmpty, IsFound, IsInUse, IsLeastEmpty, IsNoneEmpty, entry_if, entry_of, slot_at, with_slot};
 ghost use Rattle.ff_plb.specs.Slot.{after_landing, after_lift, after_store, after_turn, landing_of};
 
-use crate::slot::{Flight, Landing, Slot, Way};
+use crate::slot::{Flight, Landing, NextStep, Slot, Way};
 use ff_base::{NoMemory, PageNo};
 use ff_lines::LineMask;
 use std::alloc::Global;
@@ -73,6 +74,26 @@ fn first_empty(slots: &[Option<Slot>]) -> Option<usize>
     None
 }
 
+fn has_next(slot: &Option<Slot>, way: Way, step: NextStep) -> bool
+    ensures { IsTrue result ↔ IsNextIn slot.now way step }
+{
+    match slot {
+        Some(entry) => entry.way == way && entry.is_next(step),
+        None => false,
+    }
+}
+
+fn first_next(slots: &[Option<Slot>], way: Way, step: NextStep) -> Option<usize>
+    ensures { MatchOption result (IsNoneNext slots.now way step) (IsLeastNext slots.now way step) }
+{
+    for (at, slot) in slots.iter().enumerate() {
+        if has_next(slot, way, step) {
+            return Some(at);
+        }
+    }
+    None
+}
+
 impl Plb {
     /// So many empty slots, 1 to 64 in a geometry.
     pub fn new(alloc: Global, slots: u32) -> Result<Plb, NoMemory>
@@ -102,6 +123,14 @@ impl Plb {
         ensures { MatchOption result (IsNoneEmpty self.now) (IsLeastEmpty self.now) }
     {
         let slot = first_empty(&self.slots)?;
+        Some(slot as u32)
+    }
+
+    /// The least slot with a page that goes this way and whose next step is this.
+    pub fn least_next(&self, way: Way, step: NextStep) -> Option<u32>
+        ensures { MatchOption result (IsNoneNext self.now way step) (IsLeastNext self.now way step) }
+    {
+        let slot = first_next(&self.slots, way, step)?;
         Some(slot as u32)
     }
 
@@ -153,7 +182,8 @@ impl Plb {
     /// A line is under way.
     pub fn lift(&mut self, slot: u32, flight: Flight)
         requires { IsInUse self.old slot }
-        ensures { self.new ≡ with_slot self.old slot (option_map (after_lift flight) (slot_at self.old slot)) }
+        ensures { self.new
+            ≡ with_slot self.old slot (option_map (after_lift flight) (slot_at self.old slot)) }
     {
         let entry = self.entry(slot);
         self.put(slot, entry.lifted(flight));
@@ -164,7 +194,8 @@ impl Plb {
         requires { HasFlight self.old slot }
         ensures landing { IfSome (slot_at self.old slot) (λ entry.
             IfSome entry.flight (λ flight. result ≡ landing_of flight entry)) }
-        ensures slots { self.new ≡ with_slot self.old slot (option_map after_landing (slot_at self.old slot)) }
+        ensures slots { self.new
+            ≡ with_slot self.old slot (option_map after_landing (slot_at self.old slot)) }
     {
         let entry = self.entry(slot);
         self.put(slot, entry.landed());
@@ -176,7 +207,8 @@ impl Plb {
     pub fn store_hit(&mut self, slot: u32, line: u8)
         requires used { IsInUse self.old slot }
         requires line { line < 64 }
-        ensures { self.new ≡ with_slot self.old slot (option_map (after_store line) (slot_at self.old slot)) }
+        ensures { self.new
+            ≡ with_slot self.old slot (option_map (after_store line) (slot_at self.old slot)) }
     {
         let entry = self.entry(slot);
         self.put(slot, entry.stored(line));
@@ -185,8 +217,10 @@ impl Plb {
     /// A coming page turns back. The lines that aren't dirty count as copied.
     pub fn turn_back(&mut self, slot: u32, dirty: LineMask)
         requires { IsInUse self.old slot }
-        ensures slots { self.new ≡ with_slot self.old slot (option_map (after_turn dirty) (slot_at self.old slot)) }
-        ensures copied { (line : ℕ) → line < 64 → has_line (mask_others dirty) line ≡ not (has_line dirty line) }
+        ensures slots { self.new
+            ≡ with_slot self.old slot (option_map (after_turn dirty) (slot_at self.old slot)) }
+        ensures copied { (line : ℕ) → line < 64
+            → has_line (mask_others dirty) line ≡ not (has_line dirty line) }
     {
         let entry = self.entry(slot);
         self.put(slot, entry.turned(dirty));

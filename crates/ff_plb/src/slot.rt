@@ -1,6 +1,7 @@
 // One page in flight.
-ghost use Rattle.std.specs.Prelude.{ℕ, ◌≡◌, ◌<◌, IfSome, None, Some, not};
+ghost use Rattle.std.specs.Prelude.{ℕ, ◌≡◌, ◌<◌, ◌↔◌, IfSome, IsTrue, None, Some, not};
 ghost use Rattle.ff_lines.specs.LineMask.{has_line, mask_others, mask_with};
+ghost use Rattle.ff_plb.specs.NextStep.{IsNext};
 ghost use Rattle.ff_plb.specs.Slot.{IsFlying, after_landing, after_lift, after_store, after_turn, landing_of, without_line};
 
 use ff_base::{LINE_BYTES, PageNo};
@@ -33,6 +34,17 @@ pub struct Slot {
     pub flight: Option<Flight>,
 }
 
+/// The next step of a page in flight.
+#[derive(Clone, Copy, Debug, PartialEq, Eq)]
+pub enum NextStep {
+    /// It comes to its new home: every line is copied and none is under way.
+    Finish,
+    /// The line that is under way lands.
+    Land,
+    /// Another line is lifted.
+    Lift,
+}
+
 /// What became of a flight.
 #[derive(Clone, Copy, Debug, PartialEq, Eq)]
 pub enum Landing {
@@ -52,6 +64,17 @@ fn other_flight(flight: Option<Flight>, line: u8) -> Option<Flight>
 }
 
 impl Slot {
+    // Whether its next step is this.
+    pub(crate) fn is_next(&self, step: NextStep) -> bool
+        ensures { IsTrue result ↔ IsNext step self.now }
+    {
+        match step {
+            NextStep::Finish => self.flight.is_none() && self.bits.first_clear().is_none(),
+            NextStep::Land => self.flight.is_some(),
+            NextStep::Lift => self.flight.is_none() && self.bits.first_clear().is_some(),
+        }
+    }
+
     pub(crate) fn lifted(self, flight: Flight) -> Slot
         ensures { result ≡ after_lift flight self }
     {
@@ -120,7 +143,8 @@ impl Slot {
 
     pub(crate) fn turned(self, dirty: LineMask) -> Slot
         ensures entry { result ≡ after_turn dirty self }
-        ensures copied { (line : ℕ) → line < 64 → has_line (mask_others dirty) line ≡ not (has_line dirty line) }
+        ensures copied { (line : ℕ) → line < 64
+            → has_line (mask_others dirty) line ≡ not (has_line dirty line) }
     {
         Slot {
             way: Way::Leaving,

@@ -1,10 +1,11 @@
-// Every step of an entry, on a buffer of two slots.
-ghost use Rattle.std.specs.Prelude.{◌≡◌, length};
+// Every step of an entry, and the slot of the next step.
+ghost use Rattle.std.specs.Prelude.{◌≡◌, ◌<◌, IfOk, length};
 ghost use Rattle.ff_plb.specs.Plb.{IsInUse};
 
 use super::*;
 use ff_base::{LINE_BYTES, PageNo};
 use ff_lines::LineMask;
+use std::alloc::Global;
 use std::test::Fail;
 
 const PAGE: PageNo = PageNo(9);
@@ -205,5 +206,59 @@ fn a_page_and_a_slot_are_found(rt: HostRuntime) -> Result<(), Fail> {
     assert_eq!(rt; (plb.find(PAGE), plb.free_slot()), (None, Some(1)));
     begin(&mut plb, Way::Coming, 0);
     assert_eq!(rt; (plb.find(PAGE), plb.free_slot()), (Some(1), None));
+    Ok(())
+}
+
+// The page of this number comes or goes by the slot of the same number, where that is empty and the page has no entry.
+fn begin_in(plb: &mut Plb, slot: u32, way: Way, bits: u64)
+    requires { slot < length plb.old }
+    ensures { length plb.new ≡ length plb.old }
+{
+    match (plb.get(slot), plb.find(PageNo(slot))) {
+        (None, None) => plb.begin(slot, PageNo(slot), slot, way, LineMask(bits)),
+        _ => {}
+    }
+}
+
+fn lift_in(plb: &mut Plb, slot: u32, line: u8)
+    requires { slot < length plb.old }
+    ensures { length plb.new ≡ length plb.old }
+{
+    match plb.get(slot) {
+        Some(_) => plb.lift(slot, flight(line)),
+        None => {}
+    }
+}
+
+// A leaving page and a coming one that can finish, a coming one with a line under way and all its lines copied, and two
+// coming ones with lines to lift.
+fn in_flight(alloc: Global) -> Result<Plb, Fail>
+    ensures { IfOk result (λ plb. length plb ≡ 6) }
+{
+    let mut plb = Plb::new(alloc, 6)?;
+    begin_in(&mut plb, 0, Way::Leaving, u64::MAX);
+    begin_in(&mut plb, 2, Way::Coming, u64::MAX - 1);
+    begin_in(&mut plb, 3, Way::Coming, u64::MAX);
+    begin_in(&mut plb, 4, Way::Coming, u64::MAX);
+    begin_in(&mut plb, 5, Way::Coming, 1);
+    lift_in(&mut plb, 3, 7);
+    Ok(plb)
+}
+
+const NEXT: [(Way, NextStep, Option<u32>); 6] = [
+    (Way::Coming, NextStep::Finish, Some(4)),
+    (Way::Coming, NextStep::Land, Some(3)),
+    (Way::Coming, NextStep::Lift, Some(2)),
+    (Way::Leaving, NextStep::Finish, Some(0)),
+    (Way::Leaving, NextStep::Land, None),
+    (Way::Leaving, NextStep::Lift, None),
+];
+
+#[test]
+fn the_least_slot_with_a_next_step(rt: HostRuntime) -> Result<(), Fail> {
+    let plb = in_flight(rt.alloc())?;
+    for (way, step, slot) in NEXT.iter() {
+        assert_eq!(rt; plb.least_next(*way, *step), *slot, "{way:?} {step:?}");
+    }
     Ok(())
 }

@@ -17,7 +17,15 @@ pub record PolicyView (T : Type 0) : Type 0 where
 -- a policy under which nothing was accessed
 abbrev pub fresh_policy : {T : Type 0} → ℕ → TunerView T → PolicyView T
 fresh_policy pages tuner =
-    record { counters = replicate pages 0; threshold = tuner.start; hits = 0; recent = 0; accesses = 0; promotions = 0; tuner = tuner }
+    record {
+      counters = replicate pages 0;
+      threshold = tuner.start;
+      hits = 0;
+      recent = 0;
+      accesses = 0;
+      promotions = 0;
+      tuner = tuner;
+    }
 
 -- what a policy keeps: counted accesses paid for the promotions, and the threshold is no less than its floor
 pub record IsPolicySound {T : Type 0} (policy : PolicyView T) : Type 0 where
@@ -47,7 +55,10 @@ halved counters = map (λ count. count / 2) counters
 -- the policy after a promotion of the page began
 abbrev pub promoted : {T : Type 0} → ℕ → PolicyView T → PolicyView T
 promoted page policy =
-    record policy { counters = slice_set policy.counters page 0; promotions = policy.promotions + 1 }
+    record policy {
+      counters = slice_set policy.counters page 0;
+      promotions = policy.promotions + 1;
+    }
 
 -- the policy after a device access to the page was counted, before a step of the threshold
 abbrev pub counted : {T : Type 0} → ℕ → PolicyView T → PolicyView T
@@ -59,15 +70,23 @@ counted page policy =
     }
 
 -- the threshold became the tuner's answer, the counters were halved, and a new step begins
-pub record IsStepped {T : Type 0} (answers : T → ℕ → ℕ → ℕ → ℕ → Type 0) (old new : PolicyView T) : Type 0 where
+pub record IsStepped {T : Type 0} (answers : T → ℕ → ℕ → ℕ → ℕ → Type 0)
+    (old new : PolicyView T) : Type 0 where
   pub answer : answers old.tuner.tune old.hits STEP_ACCESSES old.threshold new.threshold
-  pub policy : new ≡ record old { counters = halved old.counters; threshold = new.threshold; hits = 0; recent = 0 }
+  pub policy : new ≡ record old {
+    counters = halved old.counters;
+    threshold = new.threshold;
+    hits = 0;
+    recent = 0;
+  }
 
 -- a step where it is due, else nothing
-abbrev pub StepsWhere : {T : Type 0} → Bool → (T → ℕ → ℕ → ℕ → ℕ → Type 0) → PolicyView T → PolicyView T → Type 0
+abbrev pub StepsWhere : {T : Type 0} → Bool → (T → ℕ → ℕ → ℕ → ℕ → Type 0) → PolicyView T
+    → PolicyView T → Type 0
 StepsWhere true answers old new = IsStepped answers old new
 StepsWhere false answers old new = new ≡ old
 
 -- a step where enough accesses have come
-abbrev pub StepsWhenDue : {T : Type 0} → (T → ℕ → ℕ → ℕ → ℕ → Type 0) → PolicyView T → PolicyView T → Type 0
+abbrev pub StepsWhenDue : {T : Type 0} → (T → ℕ → ℕ → ℕ → ℕ → Type 0) → PolicyView T
+    → PolicyView T → Type 0
 StepsWhenDue answers old new = StepsWhere (old.recent == STEP_ACCESSES) answers old new

@@ -15,9 +15,11 @@ pub record IsAsked (least hits accesses threshold : ℕ) : Type 0 where
   pub fits : threshold ≤ 255
 
 -- the rule may be asked with all numbers in its range, and answers none below its floor
-pub record KeepsFloor (least start : ℕ) (accepts : ℕ → ℕ → ℕ → Type 0) (answers : ℕ → ℕ → ℕ → ℕ → Type 0) : Type 0 where
+pub record KeepsFloor (least start : ℕ) (accepts : ℕ → ℕ → ℕ → Type 0)
+    (answers : ℕ → ℕ → ℕ → ℕ → Type 0) : Type 0 where
   pub positive : 1 ≤ least
   pub begins : least ≤ start
-  pub accepted : (hits accesses threshold : ℕ) → IsAsked least hits accesses threshold → accepts hits accesses threshold
+  pub accepted : (hits accesses threshold : ℕ) → IsAsked least hits accesses threshold
+      → accepts hits accesses threshold
   pub above_floor : (hits accesses threshold answer : ℕ) → IsAsked least hits accesses threshold
       → answers hits accesses threshold answer → least ≤ answer

@@ -17,7 +17,8 @@ pub record IsPageTableSound (table : PageTableView) : Type 0 where
 
 -- every page is at home on the SSD, and none is born
 abbrev pub fresh_table : ℕ → List ℕ → PageTableView
-fresh_table pages marks = record { homes = replicate pages Ssd; marks = marks; born = replicate pages false }
+fresh_table pages marks =
+    record { homes = replicate pages Ssd; marks = marks; born = replicate pages false }
 
 -- where a page is at home
 abbrev pub home_of : PageTableView → ℕ → Home
@@ -28,12 +29,12 @@ abbrev pub marks_of : PageTableView → ℕ → ℕ
 marks_of table page = slice_index table.marks page
 
 -- whether a page is born
-abbrev pub is_born : PageTableView → ℕ → Bool
-is_born table page = slice_index_or table.born page false
+abbrev pub is_born_in : PageTableView → ℕ → Bool
+is_born_in table page = slice_index_or table.born page false
 
 -- how many pages are born
-abbrev pub born_count : PageTableView → ℕ
-born_count table = count_by (λ born. born) table.born
+abbrev pub born_count_in : PageTableView → ℕ
+born_count_in table = count_by (λ born. born) table.born
 
 -- the table with a page's home changed
 abbrev pub with_home : ℕ → Home → PageTableView → PageTableView

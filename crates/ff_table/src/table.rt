@@ -56,7 +56,7 @@ fn unborn(alloc: Global, pages: u32) -> Result<Vec<bool>, NoMemory>
 }
 
 impl Table {
-    ghost use Rattle.ff_table.specs.Table.{IsPageTableSound, born_count, fresh_table, home_of, is_born, marks_of, with_born, with_home, with_marks};
+    ghost use Rattle.ff_table.specs.Table.{IsPageTableSound, born_count_in, fresh_table, home_of, is_born_in, marks_of, with_born, with_home, with_marks};
 
     /// Every page is at home on the SSD and none is born; the marks are those handed in. The error is want of memory and
     /// hands the marks back.
@@ -131,7 +131,7 @@ impl Table {
     /// Whether a page is born.
     pub fn is_born(&self, page: PageNo) -> bool
         requires { page.0 < length self.now.homes }
-        ensures { result ≡ is_born self.now page.0 }
+        ensures { result ≡ is_born_in self.now page.0 }
     {
         self.born[page.0 as usize]
     }
@@ -150,7 +150,7 @@ impl Table {
 
     /// How many pages are born.
     pub fn born(&self) -> u32
-        ensures { result ≡ born_count self.now }
+        ensures { result ≡ born_count_in self.now }
     {
         self.count
     }

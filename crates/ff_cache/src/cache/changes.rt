@@ -1,7 +1,7 @@
 // What is done to one slot.
 ghost use Rattle.std.specs.Prelude.{◌≡◌, ◌<◌, ◌≤◌, ◌+◌, false, length, slice_set};
 ghost use Rattle.ff_cache.specs.Cache.{values_at, with_value, IsInSet};
-ghost use Rattle.ff_cache.specs.Slots.{held, is_empty, slot_at, slot_filled, slot_flushed, slot_flushing, slot_pinned, slot_written};
+ghost use Rattle.ff_cache.specs.Slots.{held, is_empty, cache_slot_at, slot_filled, slot_flushed, slot_flushing, slot_pinned, slot_written};
 ghost use Rattle.ff_rrip.specs.Ways.{long_value};
 
 use crate::{Cache, Slot};
@@ -14,7 +14,7 @@ fn write_at(slots: &mut Vec<Slot>, k: u32, line: u8, from: u8, piece: &Piece)
     requires line { line < 64 }
     requires span { from + length piece.now ≤ 64 }
     ensures { slots.new.items ≡ slice_set slots.old.items k
-        (slot_written (slot_at slots.old.items k) line from piece.now) }
+        (slot_written (cache_slot_at slots.old.items k) line from piece.now) }
 {
     slots[k as usize].write(line, from, piece);
 }
@@ -22,7 +22,7 @@ fn write_at(slots: &mut Vec<Slot>, k: u32, line: u8, from: u8, piece: &Piece)
 fn pin_at(slots: &mut Vec<Slot>, k: u32, on: bool)
     requires { k < length slots.old.items }
     ensures { slots.new.items
-        ≡ slice_set slots.old.items k (slot_pinned on (slot_at slots.old.items k)) }
+        ≡ slice_set slots.old.items k (slot_pinned on (cache_slot_at slots.old.items k)) }
 {
     slots[k as usize].pin(on);
 }
@@ -30,7 +30,7 @@ fn pin_at(slots: &mut Vec<Slot>, k: u32, on: bool)
 fn begin_flush_at(slots: &mut Vec<Slot>, k: u32)
     requires { k < length slots.old.items }
     ensures { slots.new.items
-        ≡ slice_set slots.old.items k (slot_flushing (slot_at slots.old.items k)) }
+        ≡ slice_set slots.old.items k (slot_flushing (cache_slot_at slots.old.items k)) }
 {
     slots[k as usize].begin_flush();
 }
@@ -38,7 +38,7 @@ fn begin_flush_at(slots: &mut Vec<Slot>, k: u32)
 fn end_flush_at(slots: &mut Vec<Slot>, k: u32)
     requires { k < length slots.old.items }
     ensures { slots.new.items
-        ≡ slice_set slots.old.items k (slot_flushed (slot_at slots.old.items k)) }
+        ≡ slice_set slots.old.items k (slot_flushed (cache_slot_at slots.old.items k)) }
 {
     slots[k as usize].end_flush();
 }
@@ -63,12 +63,12 @@ impl Cache {
     /// Lays a piece over a line, one below 64, of the slot's page, which is dirty and touched then.
     pub fn write(&mut self, slot: u32, line: u8, from: u8, piece: &Piece)
         requires slot { slot < length self.old.slots }
-        requires full { is_empty (slot_at self.old.slots slot) ≡ false }
+        requires full { is_empty (cache_slot_at self.old.slots slot) ≡ false }
         requires line { line < 64 }
         requires span { from + length piece.now ≤ 64 }
         ensures { self.new ≡ record self.old {
           slots = slice_set self.old.slots slot
-              (slot_written (slot_at self.old.slots slot) line from piece.now);
+              (slot_written (cache_slot_at self.old.slots slot) line from piece.now);
         } }
     {
         write_at(&mut self.slots, slot, line, from, piece);
@@ -77,10 +77,10 @@ impl Cache {
     /// Whether the slot's page is not to give way, from now on.
     pub fn pin(&mut self, slot: u32, on: bool)
         requires slot { slot < length self.old.slots }
-        requires full { is_empty (slot_at self.old.slots slot) ≡ false }
+        requires full { is_empty (cache_slot_at self.old.slots slot) ≡ false }
         ensures { self.new ≡ record self.old {
           slots = slice_set self.old.slots slot
-              (slot_pinned on (slot_at self.old.slots slot));
+              (slot_pinned on (cache_slot_at self.old.slots slot));
         } }
     {
         pin_at(&mut self.slots, slot, on);
@@ -89,10 +89,10 @@ impl Cache {
     /// The slot's bytes were programmed.
     pub fn begin_flush(&mut self, slot: u32)
         requires slot { slot < length self.old.slots }
-        requires full { is_empty (slot_at self.old.slots slot) ≡ false }
+        requires full { is_empty (cache_slot_at self.old.slots slot) ≡ false }
         ensures { self.new ≡ record self.old {
           slots = slice_set self.old.slots slot
-              (slot_flushing (slot_at self.old.slots slot));
+              (slot_flushing (cache_slot_at self.old.slots slot));
         } }
     {
         begin_flush_at(&mut self.slots, slot);
@@ -101,10 +101,10 @@ impl Cache {
     /// The slot's programmed bytes were sealed: it is clean unless it was touched since.
     pub fn end_flush(&mut self, slot: u32)
         requires slot { slot < length self.old.slots }
-        requires full { is_empty (slot_at self.old.slots slot) ≡ false }
+        requires full { is_empty (cache_slot_at self.old.slots slot) ≡ false }
         ensures { self.new ≡ record self.old {
           slots = slice_set self.old.slots slot
-              (slot_flushed (slot_at self.old.slots slot));
+              (slot_flushed (cache_slot_at self.old.slots slot));
         } }
     {
         end_flush_at(&mut self.slots, slot);
@@ -114,8 +114,8 @@ impl Cache {
     #[tactic(auto, using(crate::proofs::Put::put_sound))]
     pub fn put(&mut self, slot: u32, page: PageNo, from: &PageBuf)
         requires slot { IsInSet self.old page.0 slot }
-        requires clean { (slot_at self.old.slots slot).dirty ≡ false }
-        requires unpinned { (slot_at self.old.slots slot).pinned ≡ false }
+        requires clean { (cache_slot_at self.old.slots slot).dirty ≡ false }
+        requires unpinned { (cache_slot_at self.old.slots slot).pinned ≡ false }
         requires absent { held self.old.slots page.0 ≡ None }
         ensures { self.new ≡ record self.old {
           slots = slice_set self.old.slots slot (slot_filled page.0 from.now);

@@ -1,7 +1,7 @@
 // The way that gives way.
 ghost use Rattle.std.specs.Prelude.{◌≡◌, ◌<◌, ◌==◌, ◌+◌, ℕ, None, Some, IfNone, true, false, length, MatchOption, if◌then◌else◌};
 ghost use Rattle.ff_cache.specs.Cache.{first_of, is_full_set, way_at};
-ghost use Rattle.ff_cache.specs.Slots.{is_empty, slot_at};
+ghost use Rattle.ff_cache.specs.Slots.{is_empty, cache_slot_at};
 ghost use Rattle.ff_device.specs.DeviceFields.{parts_of};
 ghost use Rattle.ff_device.specs.Steps.{chosen_way, may_go, may_go_at};
 ghost use Rattle.ff_device.specs.WorkRows.{HasUnpinned, IsRaised};
@@ -26,7 +26,7 @@ impl<S: Store> Device<S> {
     // Whether a slot may give way.
     fn may_go(&self, slot: u32) -> bool
         requires { slot < length self.now.cache.slots }
-        ensures { result ≡ may_go self.now.window.posts (slot_at self.now.cache.slots slot) }
+        ensures { result ≡ may_go self.now.window.posts (cache_slot_at self.now.cache.slots slot) }
     {
         if self.cache.is_pinned(slot) {
             return false;

@@ -1,7 +1,7 @@
 // A page that is fetched into a slot.
 ghost use Rattle.std.specs.Prelude.{◌≡◌, ◌<◌, ◌^◌, None, true, false, length};
 ghost use Rattle.ff_cache.specs.Cache.{IsInSet};
-ghost use Rattle.ff_cache.specs.Slots.{held, slot_at};
+ghost use Rattle.ff_cache.specs.Slots.{held, cache_slot_at};
 ghost use Rattle.ff_device.specs.DeviceFields.{parts_of};
 ghost use Rattle.ff_device.specs.Steps.{may_go};
 ghost use Rattle.ff_device.specs.Store.{SameStore};
@@ -20,8 +20,9 @@ impl<S: Store> Device<S> {
         requires idle { (S.seen self.old.store).pending ≡ None }
         requires absent { held self.old.cache.slots page.0 ≡ None }
         requires place { IsInSet self.old.cache page.0 slot }
-        requires clean { (slot_at self.old.cache.slots slot).dirty ≡ false }
-        requires goes { may_go self.old.window.posts (slot_at self.old.cache.slots slot) ≡ true }
+        requires clean { (cache_slot_at self.old.cache.slots slot).dirty ≡ false }
+        requires goes { may_go self.old.window.posts (cache_slot_at self.old.cache.slots slot)
+            ≡ true }
         ensures row { FetchRow page.0 slot result (parts_of S.seen self.old) (parts_of S.seen self.new) }
         ensures powers { Powered result (S.seen self.old.store) (S.seen self.new.store) }
         ensures same { SameStore (S.seen self.old.store) (S.seen self.new.store) }

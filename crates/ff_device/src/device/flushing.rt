@@ -1,6 +1,6 @@
 // A dirty page that is flushed, and a flush that is sealed.
 ghost use Rattle.std.specs.Prelude.{◌≡◌, ◌<◌, ◌^◌, None, Some, IsSome, true, length};
-ghost use Rattle.ff_cache.specs.Slots.{slot_at};
+ghost use Rattle.ff_cache.specs.Slots.{cache_slot_at};
 ghost use Rattle.ff_device.specs.DeviceFields.{parts_of};
 ghost use Rattle.ff_device.specs.Store.{SameStore};
 ghost use Rattle.ff_device.specs.WorkRows.{FlushRow, Powered, SealRow};
@@ -41,8 +41,8 @@ impl<S: Store> Device<S> {
         requires idle { (S.seen self.old.store).pending ≡ None }
         requires used { (S.seen self.old.store).used < 2 ^ 63 }
         requires slot { slot < length self.old.cache.slots }
-        requires held { (slot_at self.old.cache.slots slot).page ≡ Some page }
-        requires dirty { (slot_at self.old.cache.slots slot).dirty ≡ true }
+        requires held { (cache_slot_at self.old.cache.slots slot).page ≡ Some page }
+        requires dirty { (cache_slot_at self.old.cache.slots slot).dirty ≡ true }
         ensures row { FlushRow slot result (parts_of S.seen self.old) (parts_of S.seen self.new) }
         ensures powers { Powered result (S.seen self.old.store) (S.seen self.new.store) }
         ensures same { SameStore (S.seen self.old.store) (S.seen self.new.store) }
@@ -67,7 +67,7 @@ impl<S: Store> Device<S> {
         requires idle { (S.seen self.old.store).pending ≡ None }
         requires used { (S.seen self.old.store).used < 2 ^ 63 }
         requires slot { slot < length self.old.cache.slots }
-        requires dirty { (slot_at self.old.cache.slots slot).dirty ≡ true }
+        requires dirty { (cache_slot_at self.old.cache.slots slot).dirty ≡ true }
         ensures row { FlushRow slot result (parts_of S.seen self.old) (parts_of S.seen self.new) }
         ensures powers { Powered result (S.seen self.old.store) (S.seen self.new.store) }
         ensures same { SameStore (S.seen self.old.store) (S.seen self.new.store) }

@@ -2,7 +2,7 @@
 ghost use Rattle.std.specs.Prelude.{◌≡◌, ◌<◌, ◌^◌, None, true, false, length};
 ghost use Rattle.std.specs.Option.{is_some};
 ghost use Rattle.ff_cache.specs.Cache.{is_full_set, IsCacheSound, IsInSet};
-ghost use Rattle.ff_cache.specs.Slots.{held, slot_at};
+ghost use Rattle.ff_cache.specs.Slots.{held, cache_slot_at};
 ghost use Rattle.ff_device.specs.DeviceFields.{lines_in, parts_of};
 ghost use Rattle.ff_device.specs.Parts.{IsDeviceSound};
 ghost use Rattle.ff_device.specs.Steps.{chosen_way, may_go};
@@ -39,10 +39,11 @@ impl<S: Store> Device<S> {
         requires idle { (S.seen self.old.store).pending ≡ None }
         requires absent { held self.old.cache.slots page.0 ≡ None }
         requires place { IsInSet self.old.cache page.0 slot }
-        requires goes { may_go self.old.window.posts (slot_at self.old.cache.slots slot) ≡ true }
-        ensures flushes { (slot_at self.old.cache.slots slot).dirty ≡ true
+        requires goes { may_go self.old.window.posts (cache_slot_at self.old.cache.slots slot)
+            ≡ true }
+        ensures flushes { (cache_slot_at self.old.cache.slots slot).dirty ≡ true
             → FlushRow slot result (parts_of S.seen self.old) (parts_of S.seen self.new) }
-        ensures fetches { (slot_at self.old.cache.slots slot).dirty ≡ false
+        ensures fetches { (cache_slot_at self.old.cache.slots slot).dirty ≡ false
             → FetchRow page.0 slot result (parts_of S.seen self.old) (parts_of S.seen self.new) }
         ensures powers { Powered result (S.seen self.old.store) (S.seen self.new.store) }
         ensures same { SameStore (S.seen self.old.store) (S.seen self.new.store) }

@@ -2,7 +2,7 @@
 ghost use Rattle.std.specs.Prelude.{◌≡◌, ◌≢◌, ◌<◌, ◌≤◌, ◌+◌, ◌*◌, ℕ, IfErr, IfOk, length, slice_index, slice_set, if◌then◌else◌};
 ghost use Rattle.ff_base.specs.Geometry.{IsWithinLimits};
 ghost use Rattle.ff_cache.specs.Nv.{mounted_value, slot_of, slots_of, way_of, ways_of, AreMounted, IsFromNv};
-ghost use Rattle.ff_cache.specs.Slots.{slot_at, ArePlaced};
+ghost use Rattle.ff_cache.specs.Slots.{cache_slot_at, ArePlaced};
 ghost use Rattle.ff_rrip.specs.Ways.{long_value};
 
 use super::{Nv, NvParts};
@@ -21,7 +21,7 @@ fn calm_slot(slot: &mut Slot)
 fn calm_at(slots: &mut Vec<Slot>, k: usize)
     requires { k < length slots.old.items }
     ensures { slots.new.items
-        ≡ slice_set slots.old.items k (slot_of (way_of (slot_at slots.old.items k))) }
+        ≡ slice_set slots.old.items k (slot_of (way_of (cache_slot_at slots.old.items k))) }
 {
     calm_slot(&mut slots[k]);
 }
@@ -53,7 +53,7 @@ fn mounted_ways(alloc: Global, slots: &[Slot], from: u32, ways: u32) -> Result<W
     requires fits { length slots.now ≤ 4096 }
     ensures size { IfOk result (λ made. length made ≡ ways) }
     ensures each { IfOk result (λ made. (way : ℕ) → way < ways
-        → slice_index made way ≡ mounted_value (slot_at slots.now (from + way))) }
+        → slice_index made way ≡ mounted_value (cache_slot_at slots.now (from + way))) }
 {
     let mut made = Ways::new(alloc, ways)?;
     for way in 0..ways {
