@@ -2,6 +2,7 @@
 use Rattle.std.specs.Prelude.{ℕ, ◌+◌, ◌-◌, ◌*◌, ◌<◌, ◌≤◌, ◌≡◌, ◌^◌, ◌&&◌, Bool, true, false, length, count_by, IsSome}
 use Rattle.ff_base.specs.Count.{last_event}
 use Rattle.ff_base.specs.Geometry.{IsWithinLimits, capacity_of}
+use Rattle.ff_calls.specs.Told.{IsTold}
 use Rattle.ff_evict.specs.Evictor.{IsHandInside}
 use Rattle.ff_flash.specs.FlashState.{FlashState}
 use Rattle.ff_gc.specs.declared.counts.Counts.{Counts}
@@ -18,7 +19,6 @@ use Rattle.ff_model.specs.declared.op.Reply.{Reply}
 use Rattle.ff_model.specs.declared.op.Reply.TheVariants.{Bytes, Done, Range, Spent, Full, Fault}
 use Rattle.ff_core.specs.Core.{CoreView, from_operations}
 use Rattle.ff_core.specs.Hierarchy.{flash_of, lines_under}
-use Rattle.ff_core.specs.Told.{IsTold}
 use Rattle.ff_core.specs.declared.log.Back.{Back}
 use Rattle.ff_core.specs.declared.log.Back.TheVariants.{Did, Failed}
 use Rattle.ff_core.specs.declared.log.Turned.{Turned}

@@ -1,4 +1,3 @@
-pub mod Accesses
 pub mod Backs
 pub mod CanPerform
 pub mod Choices
@@ -10,6 +9,6 @@ pub mod Misses
 pub mod Performs
 pub mod Record
 pub mod RecordFields
+pub mod Serving
 pub mod Tally
-pub mod Told
 pub mod Turns

@@ -9,11 +9,11 @@ use Rattle.ff_model.specs.Spans.{is_in_range}
 use Rattle.ff_model.specs.declared.op.Op.{Op}
 use Rattle.ff_model.specs.declared.op.Reply.{Reply}
 use Rattle.ff_model.specs.declared.op.Reply.TheVariants.{Range, Spent, Fault}
-use Rattle.ff_core.specs.Accesses.{IsAccess, PolicyAfter, page_asked}
 use Rattle.ff_core.specs.Core.{CoreView, entry_now, next_number, with_entry}
 use Rattle.ff_core.specs.Hierarchy.{HierarchyView, flash_of}
 use Rattle.ff_core.specs.Misses.{IsMissAction}
 use Rattle.ff_core.specs.Performs.{Performs}
+use Rattle.ff_core.specs.Serving.{IsAccess, PolicyAfter, page_asked}
 use Rattle.ff_core.specs.Tally.{served_by, tally_after}
 use Rattle.ff_core.specs.declared.action.Action.{Action}
 use Rattle.ff_core.specs.declared.action.Progress.{Progress}

@@ -1,12 +1,24 @@
 // A set of lines as a mask of 64 bits.
-ghost use Rattle.std.specs.Prelude.{◌≡◌, ◌<◌, ◌==◌, ◌||◌, ◌&&◌, ℕ, not, IfSome, IsNone, IsTrue, ◌↔◌};
-ghost use Rattle.ff_lines.specs.LineMask.{has_line, IsLeastClear, HasEveryLine, mask_with, mask_without, mask_others};
+ghost use Rattle.std.specs.Prelude.{◌≡◌, ◌<◌, ◌≤◌, ◌+◌, ◌==◌, ◌||◌, ◌&&◌, ℕ, not, IfSome, IsNone, IsTrue, ◌↔◌};
+ghost use Rattle.ff_lines.specs.LineMask.{has_line, IsLeastClear, IsLineRange, HasEveryLine, mask_with, mask_without, mask_others};
 
 /// A set of a page's lines, in which bit i stands for line i.
 #[derive(Clone, Copy, Debug, PartialEq, Eq)]
 pub struct LineMask(pub u64);
 
 impl LineMask {
+    /// So many lines, from one on.
+    pub fn of_range(from: u32, count: u32) -> LineMask
+        requires { from + count ≤ 64 }
+        ensures { IsLineRange from count result }
+    {
+        let mut mask = LineMask(0);
+        for line in from..from + count {
+            mask.set(line as u8);
+        }
+        mask
+    }
+
     /// Puts a line into the set.
     #[tactic(auto, unfolding(crate::specs::LineMask::mask_with))]
     pub fn set(&mut self, line: u8)

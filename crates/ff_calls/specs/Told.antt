@@ -10,7 +10,7 @@ use Rattle.ff_model.specs.Callers.{is_marked}
 use Rattle.ff_model.specs.Flat.{IsFlat, is_born}
 use Rattle.ff_model.specs.Legal.{Opening, IsLegal, faults_after}
 use Rattle.ff_model.specs.declared.history.Entry.{Entry}
-use Rattle.ff_table.specs.Table.{born_in_table, marks_of}
+use Rattle.ff_table.specs.Table.{is_born_in, marks_of}
 
 -- the memory and its device hold what the history says: each byte is the flat one, the born pages and the marked lines
 -- are those of the history, and a power loss leaves what was acknowledged
@@ -22,7 +22,7 @@ pub record IsTold (opening : Opening) (entries : List Entry) (m : MemoryView) (d
   pub capacity : m.capacity ≡ opening.capacity
   pub flat : IsFlat opening.base entries opening.pages (byte_of m d)
   pub born : (page : ℕ) → page < opening.pages
-      → born_in_table m.table page ≡ is_born opening.base entries page
+      → is_born_in m.table page ≡ is_born opening.base entries page
   pub marks : (page line : ℕ) → line < 64
       → (bit_at (marks_of m.table page) line == 1) ≡ is_marked opening.base entries page line
   pub located : IsLocated m d
