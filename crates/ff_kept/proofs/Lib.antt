@@ -2,6 +2,10 @@ pub mod Acknowledging
 pub mod Apart
 pub mod Draining
 pub mod Growing
+pub mod KeepingAnswered
+pub mod KeepingDrained
+pub mod KeepingLost
+pub mod KeepingPosted
 pub mod LineBytes
 pub mod Losing
 pub mod MarkedStores
