@@ -41,7 +41,7 @@ fewer-marked base history entry posts below silent keeping =
     (λ address is. marked_at-silent base history entry address silent is) keeping
 
 -- an entry that is no store to a marked line and acknowledges nothing
-keeping-answered : (base : Content) (history : List Entry) (entry : Entry) (d : DeviceState)
+pub keeping-answered : (base : Content) (history : List Entry) (entry : Entry) (d : DeviceState)
     → is_marked_store (marked_at base history) entry ≡ false → (is_done entry.reply && acknowledges entry.op) ≡ false
     → IsKeepingDevice base history d → IsKeepingDevice base (history ++ entry ∷ []) d
 keeping-answered base history entry d isnt silent keeping =

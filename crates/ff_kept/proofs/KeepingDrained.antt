@@ -3,7 +3,7 @@ use Rattle.std.proofs.Common.{◌≡◌, ◌≢◌, ◌≤◌, ◌<◌, inl, inr
 use Rattle.std.specs.Prelude.{All, ◌&&◌, min, slice_index, unwrap_or}
 use Rattle.std.proofs.Math.Path.{fun_ext}
 use Rattle.std.proofs.lemmas.Bool.{and_left, and_right}
-use Rattle.std.proofs.lemmas.List.{append-nil}
+use Rattle.std.proofs.lemmas.List.{append-nil, take-append-drop}
 use Rattle.ff_base.specs.declared.numbers.PageNo.{PageNo}
 use Rattle.ff_base.specs.declared.numbers.TheConstants.{LINE_BYTES, PAGE_BYTES}
 use Rattle.ff_lines.specs.DeviceState.{AllDrained, DeviceState, Drains, IsDevice, IsDrained, IsPinned, IsPosted, SameLines, line_at}
@@ -62,6 +62,15 @@ pub keeping-drains : (opening : Opening) (history : List Entry) (drained kept : 
 keeping-drains opening history drained kept old new legal is drains posts keeping =
     same-keeping opening.base history (marked_at opening.base history) kept new.posts (below_byte new) (below_byte new)
     (sym posts) (λ address. refl) (keeps-rest opening history drained kept old new legal is drains keeping)
+
+-- so many of the oldest posts were drained
+pub keeping-first_drained : (opening : Opening) (history : List Entry) (count : ℕ) (old new : DeviceState)
+    → IsLegal opening history → IsDevice old → new.posts ≡ drop count old.posts
+    → ((page line : ℕ) → new.below page line ≡ laid page line (take count old.posts) (old.below page line))
+    → IsKeepingDevice opening.base history old → IsKeepingDevice opening.base history new
+keeping-first_drained opening history count old new legal is posts below keeping =
+    keeping-drains opening history (take count old.posts) (drop count old.posts) old new legal is
+    (record { split = sym (take-append-drop count old.posts); below = below }) posts keeping
 
 -- every post was drained
 pub keeping-all_drained : (opening : Opening) (history : List Entry) (old new : DeviceState) → IsLegal opening history

@@ -33,7 +33,7 @@ use Rattle.ff_kept.proofs.Posting.{keeps-landed, keeps-stored, line_number, post
 
 use Rattle.ff_kept.proofs.KeepingDrained.{keeps-rest, legal-apart, same-keeping}
 use Rattle.ff_kept.proofs.KeepingAnswered.{fewer-marked}
--- the store of a post at the page, line and place of an address
+-- the store of a post at the page, the line and the offset of an address
 pub store_of-at : (at : ℕ) (bytes : List ℕ) (post : Post) → post.page.0 ≡ at / PAGE_BYTES
     → post.line ≡ at % PAGE_BYTES / LINE_BYTES → post.from ≡ at % LINE_BYTES → post.bytes ≡ bytes
     → Store at bytes ≡ store_of post
@@ -88,10 +88,10 @@ byte-whole : (address : ℕ) (post : Post) (byte : ℕ) → post.from ≡ 0 → 
 byte-whole address post byte first size on =
     let at : ℕ = 4096 * post.page.0 + (64 * post.line + post.from) in
     let test : nat_le at address ≡ true = le-leb at address (omega arith) in
-    let place : address - at ≡ address % 64 = omega arith in
+    let offset : address - at ≡ address % 64 = omega arith in
     let found : slice_get post.bytes (address % 64) ≡ Some (get_or post.bytes (address % 64) 0) =
     slice_get-get_or post.bytes (address % 64) 0 (omega arith) in
-    rw (test, place, found) refl
+    rw (test, offset, found) refl
 
 -- a whole line of a page that went back was posted: it isn't marked, and the post has the flat bytes
 pub keeping-landed : (opening : Opening) (history : List Entry) (post : Post) (old new : DeviceState)

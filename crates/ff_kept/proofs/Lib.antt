@@ -9,6 +9,7 @@ pub mod KeepingPosted
 pub mod LineBytes
 pub mod Losing
 pub mod MarkedStores
+pub mod MarkedWithin
 pub mod Marks
 pub mod Posting
 pub mod Prefixes
