@@ -2,9 +2,14 @@ pub mod Acknowledging
 pub mod Apart
 pub mod Draining
 pub mod Growing
+pub mod KeepingAnswered
+pub mod KeepingDrained
+pub mod KeepingLost
+pub mod KeepingPosted
 pub mod LineBytes
 pub mod Losing
 pub mod MarkedStores
+pub mod MarkedWithin
 pub mod Marks
 pub mod Posting
 pub mod Prefixes

@@ -21,19 +21,19 @@ byte-laid_here : (address : ℕ) (post : Post) (bytes : List ℕ) → IsPost pos
 byte-laid_here address post bytes is size page line =
     let at : ℕ = 4096 * post.page.0 + (64 * post.line + post.from) in
     let span = is.span in
-    let place : ℕ = address % 64 in
-    let whole : address ≡ 4096 * post.page.0 + (64 * post.line + place) = omega arith in
-    byte-overlaid bytes post.from post.bytes place (omega arith)
-    ∙ elim (cases_lt place post.from) [
+    let offset : ℕ = address % 64 in
+    let whole : address ≡ 4096 * post.page.0 + (64 * post.line + offset) = omega arith in
+    byte-overlaid bytes post.from post.bytes offset (omega arith)
+    ∙ elim (cases_lt offset post.from) [
       | inl before ↦
-          let first : nat_le post.from place ≡ false = lt-leb post.from place before in
+          let first : nat_le post.from offset ≡ false = lt-leb post.from offset before in
           let second : nat_le at address ≡ false = lt-leb at address (omega arith) in
           rw (first, second) refl
       | inr from_on ↦
-          let first : nat_le post.from place ≡ true = le-leb post.from place from_on in
+          let first : nat_le post.from offset ≡ true = le-leb post.from offset from_on in
           let second : nat_le at address ≡ true = le-leb at address (omega arith) in
-          let offset : place - post.from ≡ address - at = omega arith in
-          rw (first, second, offset) refl
+          let behind : offset - post.from ≡ address - at = omega arith in
+          rw (first, second, behind) refl
     ]
 
 -- a byte of a line after a post

@@ -6,16 +6,17 @@ use Rattle.ff_lines.specs.declared.post.Post.{Post}
 use Rattle.ff_model.specs.Flat.{flat_byte_of}
 use Rattle.ff_model.specs.Image.{Content}
 use Rattle.ff_model.specs.declared.history.Entry.{Entry}
-use Rattle.ff_kept.specs.Keeping.{IsKeeping, PowerLossKeeps}
-use Rattle.ff_kept.specs.Marked.{marked_stores}
+use Rattle.ff_kept.specs.Keeping.{IsKeeping, KeepsAt, PowerLossKeeps}
+use Rattle.ff_kept.specs.Marked.{marked_at, marked_stores}
 use Rattle.ff_kept.specs.Posted.{byte_over}
 use Rattle.ff_kept.specs.Waiting.{AllWait, WaitsFirst, kept_length}
-use Rattle.ff_kept.proofs.Apart.{IsApart}
+use Rattle.ff_kept.proofs.Apart.{IsApart, apart}
 use Rattle.ff_kept.proofs.Draining.{keeps-drained}
 use Rattle.ff_kept.proofs.MarkedStores.{flat_byte_of-unmarked, marked_stores-split}
+use Rattle.ff_kept.proofs.Marks.{marked_at-by_line}
 use Rattle.ff_kept.proofs.Waiting.{next-within, waits-few}
 
--- from a place of the history on, the first entry that is lost
+-- the first entry that is lost, from a position of the history on
 record IsLostFrom (marked : ℕ → Bool) (history : List Entry) (from kept : ℕ) : Type 0 where
   from_on : from ≤ kept
   within : kept ≤ length history
@@ -72,3 +73,17 @@ keeps-lost base history marked posts below arrive lost apart few keeping =
     (omega (arith, length-drop arrive posts))
     (keeps-drained base history marked (take arrive posts) (drop arrive posts) below apart
     (subst (λ (all : List Post). IsKeeping base history marked all below) (sym (take-append-drop arrive posts)) keeping))
+
+-- so many entries are kept of each history that is kept over the posts
+pub keeps_at : (posts : List Post) (arrive entries kept : ℕ) → kept ≡ kept_length (drop arrive posts) entries
+    → KeepsAt posts arrive entries kept
+keeps_at posts arrive entries kept is = record {
+  keeps = λ opening history below lost legal size few keeping.
+      let base = opening.base in
+      let marked : ℕ → Bool = marked_at base history in
+      let same : kept_length (drop arrive posts) (length history) ≡ kept =
+      ap (λ (n : ℕ). kept_length (drop arrive posts) n) size ∙ sym is in
+      subst (λ (n : ℕ). PowerLossKeeps base history marked (λ address. byte_over address (take arrive posts) (below address)) n lost) same
+      (keeps-lost base history marked posts below arrive lost
+      (apart marked opening history (marked_at-by_line base history) legal) few keeping);
+}

@@ -34,7 +34,7 @@ weight_le marked entry = elim (cases_Bool (is_marked_store marked entry)) [
   | inr isnt ↦ rw isnt (omega arith)
 ]
 
--- the stores behind a place are those up to a later place and those behind it
+-- the stores from a position on are those up to a later position and those from there on
 pub marked_stores-split : (marked : ℕ → Bool) (history : List Entry) (from to : ℕ) → from ≤ to
     → marked_stores marked (drop from history)
     ≡ marked_stores marked (slice_range history from to) + marked_stores marked (drop to history)

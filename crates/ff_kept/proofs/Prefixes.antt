@@ -28,7 +28,7 @@ drop_next {A} xs at x there =
     drop_more xs at x (slice_get_within xs at x there)
     ∙ ap (λ (y : A). y ∷ drop (at + 1) xs) (get_or_from_slice_get xs at x x there)
 
--- what stands between two places stands there when more is put behind
+-- what stands between two positions stands there when more is put behind
 pub slice_range-longer : {A : Type 0} (xs ys : List A) (from to : ℕ) → from ≤ to → to ≤ length xs
     → slice_range (xs ++ ys) from to ≡ slice_range xs from to
 slice_range-longer {A} xs ys from to order within =

@@ -10,7 +10,7 @@ use Rattle.ff_kept.specs.Posted.{posted_byte, store_of}
 abbrev pub LeavesMarked : (ℕ → Bool) → Post → Type 0
 LeavesMarked marked post = (address : ℕ) → marked address ≡ true → posted_byte address post ≡ None
 
--- the post is the store at this position, and no store to a marked line lies between a place of the history and it
+-- the post is the store at a position of the history, and no store to a marked line lies between an earlier one and it
 pub record IsNextStore (marked : ℕ → Bool) (history : List Entry) (from position : ℕ) (post : Post) : Type 0 where
   pub from_on : from ≤ position
   pub entry : Entry
@@ -19,20 +19,20 @@ pub record IsNextStore (marked : ℕ → Bool) (history : List Entry) (from posi
   pub store : entry.op ≡ store_of post
   pub none_between : marked_stores marked (slice_range history from position) ≡ 0
 
--- what the oldest post is to the history from a place on, by its position, where the later posts are something to the
--- history from the next place on
+-- what the oldest post is to the history from a position on, by the post's own: without one it leaves the marked lines,
+-- else it is the next store to them. `Later` is what the posts behind it are to the history from a position on
 abbrev pub WaitsFirst : (ℕ → Bool) → List Entry → ℕ → Post → (ℕ → Type 0) → Option ℕ → Type 0
-WaitsFirst marked history from post later None = LeavesMarked marked post × later from
-WaitsFirst marked history from post later (Some position) =
-    IsNextStore marked history from position post × later (position + 1)
+WaitsFirst marked history from post Later None = LeavesMarked marked post × Later from
+WaitsFirst marked history from post Later (Some position) =
+    IsNextStore marked history from position post × Later (position + 1)
 
--- each store to a marked line from a place of the history on waits, in order; a post without a position is to none
+-- each store to a marked line from a position of the history on waits, in order; a post without a position is to none
 abbrev pub AllWait : (ℕ → Bool) → List Entry → ℕ → List Post → Type 0
 AllWait marked history from [] = marked_stores marked (drop from history) ≡ 0
 AllWait marked history from (post ∷ later) =
     WaitsFirst marked history from post (λ next. AllWait marked history next later) post.position
 
--- how many entries are kept where these posts are lost, of so many: those before the first position that is lost
+-- how many of so many entries are kept where these posts are lost: those before the first position that is lost
 abbrev pub kept_length : List Post → ℕ → ℕ
 kept_length [] entries = entries
 kept_length (post ∷ later) entries = unwrap_or post.position (kept_length later entries)
