@@ -1,5 +1,5 @@
 // The page frames, by number.
-ghost use Rattle.std.specs.Prelude.{◌≡◌, ◌≢◌, ◌+◌, ◌<◌, ◌≤◌, ◌↔◌, ◌^◌, IfOk, IfSome, IfNone, IsNone, length, None, replicate};
+ghost use Rattle.std.specs.Prelude.{◌≡◌, ◌≢◌, ◌+◌, ◌<◌, ◌≤◌, ◌↔◌, ◌^◌, IfOk, IfSome, IfNone, IsNone, IsTrue, length, None, replicate};
 ghost use Rattle.ff_base.specs.Page.{line_of};
 ghost use Rattle.ff_frames.specs.Frame.{cleaned_frame, filled_frame, free_frame, given_frame, referred_frame, taken_frame, written_frame};
 
@@ -99,6 +99,13 @@ impl Frames {
         ensures { result ≡ free_count self.now }
     {
         self.free
+    }
+
+    /// Whether no frame is free.
+    pub fn is_full(&self) -> bool
+        ensures { IsTrue result ↔ IsNoneFree self.now }
+    {
+        self.free == 0
     }
 
     /// How many frames there are.

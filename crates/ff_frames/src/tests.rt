@@ -48,9 +48,9 @@ fn the_least_free_frame_is_taken(rt: HostRuntime) -> Result<(), Fail> {
     frames.known();
     assert_eq!(rt; (frames.len(), frames.free()), (2, 2));
     assert_eq!(rt; two_taken(&mut frames), (Some(0), Some(1), None));
-    assert_eq!(rt; frames.free(), 0);
+    assert_eq!(rt; (frames.free(), frames.is_full()), (0, true));
     give_back(&mut frames, 0);
-    assert_eq!(rt; frames.free(), 1);
+    assert_eq!(rt; (frames.free(), frames.is_full()), (1, false));
     assert_eq!(rt; state(&frames, 0), (None, 0, false));
     assert_eq!(rt; frames.take(PageNo(5)), Some(0));
     Ok(())

@@ -1,5 +1,5 @@
 // The beginnings of migrations: promotion, retreat and turning back.
-ghost use Rattle.std.specs.Prelude.{ℕ, ◌≡◌, ◌≢◌, ◌<◌, Some, length, not};
+ghost use Rattle.std.specs.Prelude.{ℕ, ◌≡◌, ◌≢◌, ◌<◌, ◌↔◌, IsTrue, Some, length, not};
 ghost use Rattle.ff_lines.specs.DeviceState.{DeviceState, IsDevice};
 ghost use Rattle.ff_frames.specs.Frames.{IsLeastFree, IsNoneFree, frame_at};
 ghost use Rattle.ff_lines.specs.LineMask.{has_line, mask_others};
@@ -29,6 +29,18 @@ fn least_empty(plb: &Plb) -> u32
 }
 
 impl Memory {
+    /// Whether a promotion of the page may begin.
+    pub fn can_promote<D: LineDevice>(&self, d: &D, page: PageNo) -> bool
+        requires { page.0 < length self.now.table.homes }
+        ensures { IsTrue result ↔ CanPromote self.now (D.state d.now) page.0 }
+    {
+        self.is_home(page)
+            && self.table.marks(page) == 0
+            && d.resident(page)
+            && !self.frames.is_full()
+            && self.plb.free_slot().is_some()
+    }
+
     /// Begins to copy a page into the least free frame: a promotion.
     pub fn begin_promote<D: LineDevice>(&mut self, d: &mut D, page: PageNo)
         requires can { CanPromote self.old (D.state d.old) page.0 }

@@ -15,7 +15,7 @@ use ff_table::Home;
 
 impl Memory {
     // Whether a page is on the SSD and has no entry.
-    fn is_home(&self, page: PageNo) -> bool
+    pub(crate) fn is_home(&self, page: PageNo) -> bool
         requires { page.0 < length self.now.table.homes }
         ensures { result ≡ is_home self.now page.0 }
     {
