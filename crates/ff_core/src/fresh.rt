@@ -92,3 +92,46 @@ fn make_pieces(alloc: Global, geometry: &Geometry, room: Room) -> Result<Pieces,
         window: Window::new(alloc, geometry.window)?,
     })
 }
+
+// The parts of a session, of its pieces and the policy, over a device.
+fn assemble<F: Flash, T: Tune, E: Pick>(
+    pieces: Assembled<T>,
+    device: Device<F>,
+    picker: Picker<E>,
+    geometry: Geometry,
+) -> State<F, T, E>
+    ensures { result ≡ record {
+      opening = opening_of pieces.base geometry 0 (flash_in device).faults;
+      geometry = geometry;
+      from_counts = no_counts;
+      history = pieces.history;
+      events = 0;
+      log = pieces.log;
+      tally = no_tally;
+      hierarchy = record {
+        memory = pieces.memory;
+        device = device;
+        policy = pieces.policy;
+        evictor = record { hand = 0; picker = picker };
+      };
+    } }
+{
+    let from_faults = device.store().flash().fault_count();
+    State {
+        base: pieces.base,
+        geometry,
+        from_event: 0,
+        from_faults,
+        from_counts: Counts::new(),
+        history: pieces.history,
+        events: 0,
+        log: pieces.log,
+        tally: Tally::default(),
+        hierarchy: Hierarchy {
+            memory: pieces.memory,
+            device,
+            policy: pieces.policy,
+            evictor: Evictor::new(picker),
+        },
+    }
+}
