@@ -7,10 +7,11 @@ use Rattle.ff_lines.specs.Posts.{waits_in}
 use Rattle.ff_lines.specs.Works.{KeepsLines}
 use Rattle.ff_lines.specs.declared.device.Work.{Work}
 use Rattle.ff_lines.specs.declared.device.Work.TheVariants.{Ready, Stepped, Pinned, Failed, Off}
-use Rattle.ff_device.specs.DeviceFields.{lines_of}
+use Rattle.ff_device.specs.Device.{lines_of}
 use Rattle.ff_device.specs.Parts.{is_pinned, is_resident, is_written, line_below, Parts}
-use Rattle.ff_device.specs.Store.{SameStore, StoreView}
-use Rattle.ff_device.specs.WorkRows.{IsStopped, Powered}
+use Rattle.ff_device.specs.StoreState.{StoreState}
+use Rattle.ff_device.specs.StoreSteps.{Powers, SameLimits}
+use Rattle.ff_device.specs.WorkRows.{IsStopped, stop_of_work}
 use Rattle.ff_device.proofs.Edits.{edited_below, edited_pinned, edited_resident, edited_written, Edited}
 use Rattle.ff_device.proofs.Fetches.{fetching_below, fetching_pinned, fetching_stay, fetching_written, Fetching}
 use Rattle.ff_device.proofs.Touching.{with_values}
@@ -60,18 +61,18 @@ raised_keeps old mid new values is keeps =
     let k : Keeps (with_values values old) new = rw is at keeps in
     record { posts = k.posts; below = k.below; pinned = k.pinned; written = k.written; stay = k.stay; pages = k.pages }
 
-pub record Counted (old new : StoreView) : Type 0 where
+pub record Counted (old new : StoreState) : Type 0 where
   pub no_fall : old.used ≤ new.used
   pub one_more : new.used ≤ old.used + 1
 
-pub counted : (result : Work) (old new : StoreView) → Powered result old new → Counted old new
+pub counted : (result : Work) (old new : StoreState) → Powers (stop_of_work result) old new → Counted old new
 counted Ready old new p = record { no_fall = p.no_fall; one_more = p.one_more }
 counted Stepped old new p = record { no_fall = p.no_fall; one_more = p.one_more }
 counted (Pinned other) old new p = record { no_fall = p.no_fall; one_more = p.one_more }
 counted Failed old new p = let used = p.used in record { no_fall = omega arith; one_more = omega arith }
 counted Off old new p = record { no_fall = p.no_fall; one_more = p.one_more }
 
-pub keeps_lines : (result : Work) (old new : Parts) → Keeps old new → SameStore old.store new.store → Powered result old.store new.store
+pub keeps_lines : (result : Work) (old new : Parts) → Keeps old new → SameLimits old.store new.store → Powers (stop_of_work result) old.store new.store
     → KeepsLines (lines_of old) (lines_of new)
 keeps_lines result old new k same powers =
     let count = counted result old.store new.store powers in

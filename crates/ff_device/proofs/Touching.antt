@@ -7,7 +7,7 @@ use Rattle.ff_cache.specs.Cache.{with_value, CacheView, IsSlotOf}
 use Rattle.ff_cache.specs.Slots.{slot_at}
 use Rattle.ff_lines.specs.DeviceState.{DeviceState, IsDrained, SameResidence}
 use Rattle.ff_rrip.specs.Ways.{near_value}
-use Rattle.ff_device.specs.DeviceFields.{lines_of}
+use Rattle.ff_device.specs.Device.{lines_of}
 use Rattle.ff_device.specs.Draining.{DrainsFirst, HitIf, SameFrames}
 use Rattle.ff_device.specs.Parts.{line_below, IsDeviceSound, Parts}
 
