@@ -9,7 +9,7 @@ use Rattle.ff_lines.specs.declared.post.Post.{Post}
 use Rattle.ff_lines.proofs.PageCounts.{count_below-part}
 use Rattle.ff_window.specs.Window.{WindowView}
 use Rattle.ff_device.specs.Parts.{is_dirty, is_written, IsDeviceSound, Parts}
-use Rattle.ff_device.specs.Store.{is_mapped}
+use Rattle.ff_device.specs.StoreState.{is_stored}
 
 less_written : (m d waits : Bool) → (m || (d || false)) ≡ true → (m || (d || waits)) ≡ true
 less_written true d waits is = refl
@@ -27,7 +27,7 @@ emptied_sound old window sound none room = record {
   waiting = λ p waits. let never : false ≡ true = rw none at waits in absurd (cc);
   room =
       let part = count_below-part (is_written (record old { window = window })) (is_written old) (length old.store.pages) (λ p is.
-      less_written (is_mapped old.store p) (is_dirty old p) (waits_in old.window.posts p) (rw none at is)) in
+      less_written (is_stored old.store p) (is_dirty old p) (waits_in old.window.posts p) (rw none at is)) in
       let few = sound.room in
       omega arith;
   window = rw room sound.window;

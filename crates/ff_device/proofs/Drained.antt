@@ -13,7 +13,7 @@ use Rattle.ff_device.specs.Draining.{DrainsFirst, SameFrames}
 
 pub residence_same : (d : DeviceState) → SameResidence d d
 residence_same d = record {
-  sizes = record { pages = refl; room = refl; most_steps = refl };
+  sizes = record { pages = refl; room = refl; most_steps = refl; most_posts = refl };
   resident = λ p. refl;
   on = refl;
   used = refl;
@@ -26,6 +26,7 @@ residence_more a b c first second = record {
     pages = second.sizes.pages ∙ first.sizes.pages;
     room = second.sizes.room ∙ first.sizes.room;
     most_steps = second.sizes.most_steps ∙ first.sizes.most_steps;
+    most_posts = second.sizes.most_posts ∙ first.sizes.most_posts;
   };
   resident = λ p. second.resident p ∙ first.resident p;
   on = second.on ∙ first.on;

@@ -4,9 +4,9 @@ use Rattle.std.proofs.lemmas.Bool.{cases_eq}
 use Rattle.ff_cache.specs.declared.slot.Slot.{Slot}
 use Rattle.ff_lines.specs.DeviceState.{SameLines}
 use Rattle.ff_lines.proofs.PageCounts.{count_below-same}
-use Rattle.ff_device.specs.DeviceFields.{lines_of}
+use Rattle.ff_device.specs.Device.{lines_of}
 use Rattle.ff_device.specs.Parts.{Parts, cached, is_pinned, is_resident, is_written, page_below, IsDeviceSound, IsFlushing}
-use Rattle.ff_device.specs.Store.{Pending, mapped, page_bytes}
+use Rattle.ff_device.specs.StoreState.{PendingFlush, stored_in, stored_bytes}
 use Rattle.ff_lines.specs.BlankLine.{line_or_blank}
 use Rattle.ff_device.proofs.Holding.{Changed}
 
@@ -15,7 +15,7 @@ pub record Edited (page : ℕ) (slot after : Slot) (old new : Parts) : Type 0 wh
   pub changed : Changed page slot after old.cache.slots new.cache.slots
   pub bytes : after.bytes ≡ slot.bytes
   pub window : new.window ≡ old.window
-  pub stored : (p : ℕ) → p ≢ page → mapped new.store p ≡ mapped old.store p
+  pub stored : (p : ℕ) → p ≢ page → stored_in new.store p ≡ stored_in old.store p
   pub pages : length new.store.pages ≡ length old.store.pages
   pub capacity : new.store.capacity ≡ old.store.capacity
   pub written : is_written new page ≡ is_written old page
@@ -50,8 +50,8 @@ edited_written page slot after old new e p = elim (cases_eq p page) [
 
 -- it keeps what a device keeps, where the changed slot and the flush do
 pub edited_sound : (page : ℕ) (slot after : Slot) (old new : Parts) → Edited page slot after old new → IsDeviceSound old
-    → (after.dirty ≡ false → after.bytes ≡ page_bytes new.store page)
-    → ((flush : Pending) → new.store.pending ≡ Some flush → IsFlushing new flush)
+    → (after.dirty ≡ false → after.bytes ≡ stored_bytes new.store page)
+    → ((flush : PendingFlush) → new.store.pending ≡ Some flush → IsFlushing new flush)
     → IsDeviceSound new
 edited_sound page slot after old new e sound clean flushing = record {
   pages = λ p is. rw e.pages (sound.pages p (sym (edited_resident page slot after old new e p) ∙ is));
@@ -80,7 +80,7 @@ edited_lines page slot after old new e = record {
 }
 
 -- a flush that waits is of the changed slot or of another
-pub edited_flushing : (page : ℕ) (slot after : Slot) (old new : Parts) → Edited page slot after old new → (flush : Pending)
+pub edited_flushing : (page : ℕ) (slot after : Slot) (old new : Parts) → Edited page slot after old new → (flush : PendingFlush)
     → IsFlushing old flush → after.dirty ≡ slot.dirty → (after.touched ≡ false → slot.touched ≡ false) → IsFlushing new flush
 edited_flushing page slot after old new e flush was dirty touched = elim (cases_eq flush.page page) [
   | inl same ↦

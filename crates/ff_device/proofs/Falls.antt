@@ -13,14 +13,14 @@ use Rattle.ff_lines.specs.declared.post.Post.{Post}
 use Rattle.ff_device.specs.Draining.{SameFrames}
 use Rattle.ff_device.specs.Parts.{is_resident, Parts}
 use Rattle.ff_device.specs.Steps.{chosen_way, flush_steps, may_go, may_go_at, page_waits, soon_clean, steps_of_set, steps_of_slot, steps_of_way, steps_to}
-use Rattle.ff_device.specs.Store.{IsStoreViewSound, Pending, StoreView}
+use Rattle.ff_device.specs.StoreState.{IsStoreStateSound, PendingFlush, StoreState}
 use Rattle.ff_device.specs.WorkRows.{HasUnpinned}
 use Rattle.ff_device.proofs.Frames.{chosen_frames, frames_by, full_frames}
 use Rattle.ff_device.proofs.Oldest.{some_chosen}
 use Rattle.ff_device.proofs.Sealing.{sealing_flush, sealing_slot, Sealing}
 
 -- the steps of a page that isn't resident, with and without a flush that waits
-pub steps_waiting : (parts : Parts) (page : ℕ) (flush : Pending) → held parts.cache.slots page ≡ None → parts.store.pending ≡ Some flush
+pub steps_waiting : (parts : Parts) (page : ℕ) (flush : PendingFlush) → held parts.cache.slots page ≡ None → parts.store.pending ≡ Some flush
     → steps_to parts page ≡ suc (1 + steps_of_set parts page)
 steps_waiting parts page flush absent waits = rw (absent, waits) refl
 
@@ -32,7 +32,7 @@ pub steps_full : (parts : Parts) (page : ℕ) (way : Option ℕ) → is_full_set
     → steps_of_set parts page ≡ steps_of_way parts page way
 steps_full parts page way full choice = rw (full, choice) refl
 
-not_clean : (pending : Option Pending) (slot : Slot) → pending ≡ None → slot.dirty ≡ true → soon_clean pending slot ≡ false
+not_clean : (pending : Option PendingFlush) (slot : Slot) → pending ≡ None → slot.dirty ≡ true → soon_clean pending slot ≡ false
 not_clean pending slot idle dirty = rw (idle, dirty) refl
 
 -- the steps where the chosen way is dirty and no flush waits
@@ -94,7 +94,7 @@ some_way : (o : Option ℕ) → is_some o ≡ true → (way : ℕ) × (o ≡ Som
 some_way None is = absurd (cc)
 some_way (Some way) is = (way, refl)
 
-slot_most : (store : StoreView) (slot : Slot) → store.pending ≡ None → steps_of_slot store slot ≤ store.left + 2
+slot_most : (store : StoreState) (slot : Slot) → store.pending ≡ None → steps_of_slot store slot ≤ store.left + 2
 slot_most store slot idle = elim (cases_Bool (soon_clean store.pending slot)) [
   | inl soon ↦ rw soon (omega arith)
   | inr late ↦ rw (late, idle) (omega arith)
@@ -130,11 +130,11 @@ drained_falls old new page sound absent still idle full none free frames posts s
     let left : new.store.left ≡ old.store.left = ap (λ s. s.left) store in
     omega arith
 
-sealed_here : (flush : Pending) (slot : Slot) → slot.dirty ≡ true → holds slot flush.page ≡ true
+sealed_here : (flush : PendingFlush) (slot : Slot) → slot.dirty ≡ true → holds slot flush.page ≡ true
     → soon_clean None (slot_flushed slot) ≡ soon_clean (Some flush) slot
 sealed_here flush slot dirty is = rw (dirty, is) (or_false (not slot.touched))
 
-sealed_there : (flush : Pending) (slot : Slot) → holds slot flush.page ≡ false → soon_clean None slot ≡ soon_clean (Some flush) slot
+sealed_there : (flush : PendingFlush) (slot : Slot) → holds slot flush.page ≡ false → soon_clean None slot ≡ soon_clean (Some flush) slot
 sealed_there flush slot is = rw is refl
 
 -- a slot is clean after the seal where it was soon to be
@@ -165,7 +165,7 @@ either_less : (full : Bool) (n m : ℕ) → n ≤ m → (if full then n else 0) 
 either_less true n m less = less
 either_less false n m less = omega arith
 
-slot_less : (a b : StoreView) (one other : Slot) → soon_clean a.pending one ≡ soon_clean b.pending other → flush_steps a ≤ flush_steps b
+slot_less : (a b : StoreState) (one other : Slot) → soon_clean a.pending one ≡ soon_clean b.pending other → flush_steps a ≤ flush_steps b
     → steps_of_slot a one ≤ steps_of_slot b other
 slot_less a b one other same less = rw same (less_if (soon_clean b.pending other) (flush_steps a) (flush_steps b) less)
 
@@ -179,7 +179,7 @@ sealed_way page wanted old new s frames less (Some way) =
     slot_less new.store old.store (way_at new.cache wanted way) (way_at old.cache wanted way) soon less
 
 -- the flush that waited was sealed
-pub sealed_falls : (page wanted : ℕ) (old new : Parts) → (s : Sealing page old new) → IsStoreViewSound new.store
+pub sealed_falls : (page wanted : ℕ) (old new : Parts) → (s : Sealing page old new) → IsStoreStateSound new.store
     → new.store.most_left ≡ old.store.most_left → held old.cache.slots wanted ≡ None → held new.cache.slots wanted ≡ None
     → steps_to new wanted < steps_to old wanted
 sealed_falls page wanted old new s store most absent still =

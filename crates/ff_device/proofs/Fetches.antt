@@ -10,7 +10,7 @@ use Rattle.ff_lines.specs.declared.post.Post.{Post}
 use Rattle.ff_lines.proofs.PageCounts.{count_below-same}
 use Rattle.ff_device.specs.Parts.{cached, is_dirty, is_pinned, is_resident, is_written, page_below, IsDeviceSound, Parts}
 use Rattle.ff_device.specs.Steps.{may_go, page_waits}
-use Rattle.ff_device.specs.Store.{is_mapped, page_bytes}
+use Rattle.ff_device.specs.StoreState.{is_stored, stored_bytes}
 use Rattle.ff_device.specs.WorkRows.{IsFetched}
 use Rattle.ff_device.proofs.Holding.{replaced_at, Replaced}
 
@@ -31,10 +31,10 @@ abbrev gone_of : (slot : ℕ) (old : Parts) → Slot
 gone_of slot old = cache_slot_at old.cache.slots slot
 
 pub fetching_replaced : (page slot : ℕ) (old new : Parts) → Fetching page slot old new
-    → Replaced page (gone_of slot old) (slot_filled page (page_bytes old.store page)) old.cache.slots new.cache.slots
+    → Replaced page (gone_of slot old) (slot_filled page (stored_bytes old.store page)) old.cache.slots new.cache.slots
 fetching_replaced page slot old new f =
-    let own : holds (slot_filled page (page_bytes old.store page)) page ≡ true = eq-eqb page page refl in
-    rw f.fetched.cache (replaced_at old.cache page slot (slot_filled page (page_bytes old.store page)) f.cache f.place.within f.absent own)
+    let own : holds (slot_filled page (stored_bytes old.store page)) page ≡ true = eq-eqb page page refl in
+    rw f.fetched.cache (replaced_at old.cache page slot (slot_filled page (stored_bytes old.store page)) f.cache f.place.within f.absent own)
 
 goes_unposted : (posts : List Post) (found : Option PageNo) (p : ℕ) → not (page_waits posts found) ≡ true → is_page found p ≡ true
     → waits_in posts p ≡ false
@@ -53,7 +53,7 @@ gone_unpinned : (page slot : ℕ) (old new : Parts) → Fetching page slot old n
 gone_unpinned page slot old new f =
     not-true (gone_of slot old).pinned (and_parts (not (gone_of slot old).pinned) (not (page_waits old.window.posts (gone_of slot old).page)) f.goes).0
 
-stored_same : (page slot : ℕ) (old new : Parts) → Fetching page slot old new → (p : ℕ) → page_bytes new.store p ≡ page_bytes old.store p
+stored_same : (page slot : ℕ) (old new : Parts) → Fetching page slot old new → (p : ℕ) → stored_bytes new.store p ≡ stored_bytes old.store p
 stored_same page slot old new f p = rw f.fetched.pages refl
 
 pub fetching_below : (page slot : ℕ) (old new : Parts) → Fetching page slot old new → (p : ℕ) → page_below new p ≡ page_below old p
@@ -94,11 +94,11 @@ dirty_same page slot old new f p =
 pub fetching_written : (page slot : ℕ) (old new : Parts) → Fetching page slot old new → (p : ℕ) → is_written new p ≡ is_written old p
 fetching_written page slot old new f p =
     let dirty : is_dirty new p ≡ is_dirty old p = dirty_same page slot old new f p in
-    let mapped : is_mapped new.store p ≡ is_mapped old.store p = rw f.fetched.pages refl in
+    let mapped : is_stored new.store p ≡ is_stored old.store p = rw f.fetched.pages refl in
     let waits : waits_in new.window.posts p ≡ waits_in old.window.posts p = rw f.fetched.window refl in
     ap (λ m. m || (is_dirty new p || waits_in new.window.posts p)) mapped
-    ∙ ap (λ d. is_mapped old.store p || (d || waits_in new.window.posts p)) dirty
-    ∙ ap (λ w. is_mapped old.store p || (is_dirty old p || w)) waits
+    ∙ ap (λ d. is_stored old.store p || (d || waits_in new.window.posts p)) dirty
+    ∙ ap (λ w. is_stored old.store p || (is_dirty old p || w)) waits
 
 pub fetching_resident : (page slot : ℕ) (old new : Parts) → Fetching page slot old new → is_resident new page ≡ true
 fetching_resident page slot old new f = rw (fetching_replaced page slot old new f).here refl
@@ -137,13 +137,13 @@ fetching_in_range page slot old new f p is =
     ])
 
 fetching_clean : (page slot : ℕ) (old new : Parts) → Fetching page slot old new → (p : ℕ) (held : Slot) → cached new p ≡ Some held
-    → held.dirty ≡ false → held.bytes ≡ page_bytes new.store p
+    → held.dirty ≡ false → held.bytes ≡ stored_bytes new.store p
 fetching_clean page slot old new f p held is clean =
     let r = fetching_replaced page slot old new f in
     rw f.fetched.pages (elim (cases_eq p page) [
       | inl same ↦
-          let both : Some (slot_filled page (page_bytes old.store page)) ≡ Some held = sym r.here ∙ ap (λ q. cached new q) (sym same) ∙ is in
-          let one : slot_filled page (page_bytes old.store page) ≡ held = cc in
+          let both : Some (slot_filled page (stored_bytes old.store page)) ≡ Some held = sym r.here ∙ ap (λ q. cached new q) (sym same) ∙ is in
+          let one : slot_filled page (stored_bytes old.store page) ≡ held = cc in
           rw same (ap (λ (s : Slot). s.bytes) (sym one))
       | inr apart ↦ elim (cases_Bool (holds (gone_of slot old) p)) [
         | inl gone ↦ let none : None ≡ Some held = sym (r.left p gone) ∙ is in absurd (cc)

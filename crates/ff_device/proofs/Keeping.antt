@@ -7,10 +7,11 @@ use Rattle.ff_lines.specs.Posts.{waits_in}
 use Rattle.ff_lines.specs.Works.{KeepsLines}
 use Rattle.ff_lines.specs.declared.device.Work.{Work}
 use Rattle.ff_lines.specs.declared.device.Work.TheVariants.{Ready, Stepped, Pinned, Failed, Off}
-use Rattle.ff_device.specs.DeviceFields.{lines_of}
+use Rattle.ff_device.specs.Device.{lines_of}
 use Rattle.ff_device.specs.Parts.{is_pinned, is_resident, is_written, line_below, Parts}
-use Rattle.ff_device.specs.Store.{SameStore, StoreView}
-use Rattle.ff_device.specs.WorkRows.{IsStopped, Powered}
+use Rattle.ff_device.specs.StoreState.{StoreState}
+use Rattle.ff_device.specs.StoreSteps.{Powers, SameLimits}
+use Rattle.ff_device.specs.WorkRows.{IsStopped, stop_of_work}
 use Rattle.ff_device.proofs.Edits.{edited_below, edited_pinned, edited_resident, edited_written, Edited}
 use Rattle.ff_device.proofs.Fetches.{fetching_below, fetching_pinned, fetching_stay, fetching_written, Fetching}
 use Rattle.ff_device.proofs.Touching.{with_values}
@@ -23,6 +24,7 @@ pub record Keeps (old new : Parts) : Type 0 where
   pub stay : (p : ℕ) → (is_pinned old p ≡ true) ⊎ (waits_in old.window.posts p ≡ true)
       → is_resident old p ≡ true → is_resident new p ≡ true
   pub pages : length new.store.pages ≡ length old.store.pages
+  pub room : new.window.room ≡ old.window.room
 
 pub edited_keeps : (page : ℕ) (slot after : Slot) (old new : Parts) → Edited page slot after old new → after.pinned ≡ slot.pinned → Keeps old new
 edited_keeps page slot after old new e pins = record {
@@ -32,6 +34,7 @@ edited_keeps page slot after old new e pins = record {
   written = edited_written page slot after old new e;
   stay = λ p kept_by resident. edited_resident page slot after old new e p ∙ resident;
   pages = e.pages;
+  room = ap (λ w. w.room) e.window;
 }
 
 pub fetching_keeps : (page slot : ℕ) (old new : Parts) → Fetching page slot old new → Keeps old new
@@ -42,6 +45,7 @@ fetching_keeps page slot old new f = record {
   written = fetching_written page slot old new f;
   stay = fetching_stay page slot old new f;
   pages = ap length f.fetched.pages;
+  room = ap (λ w. w.room) f.fetched.window;
 }
 
 pub stopped_keeps : (old new : Parts) → IsStopped old new → Keeps old new
@@ -52,26 +56,27 @@ stopped_keeps old new s = record {
   written = λ p. rw (s.cache, s.pages, s.window) refl;
   stay = λ p kept_by resident. rw s.cache resident;
   pages = ap length s.pages;
+  room = ap (λ w. w.room) s.window;
 }
 
 -- values were raised before
 pub raised_keeps : (old mid new : Parts) (values : List (List ℕ)) → mid ≡ with_values values old → Keeps mid new → Keeps old new
 raised_keeps old mid new values is keeps =
     let k : Keeps (with_values values old) new = rw is at keeps in
-    record { posts = k.posts; below = k.below; pinned = k.pinned; written = k.written; stay = k.stay; pages = k.pages }
+    record { posts = k.posts; below = k.below; pinned = k.pinned; written = k.written; stay = k.stay; pages = k.pages; room = k.room }
 
-pub record Counted (old new : StoreView) : Type 0 where
+pub record Counted (old new : StoreState) : Type 0 where
   pub no_fall : old.used ≤ new.used
   pub one_more : new.used ≤ old.used + 1
 
-pub counted : (result : Work) (old new : StoreView) → Powered result old new → Counted old new
+pub counted : (result : Work) (old new : StoreState) → Powers (stop_of_work result) old new → Counted old new
 counted Ready old new p = record { no_fall = p.no_fall; one_more = p.one_more }
 counted Stepped old new p = record { no_fall = p.no_fall; one_more = p.one_more }
 counted (Pinned other) old new p = record { no_fall = p.no_fall; one_more = p.one_more }
 counted Failed old new p = let used = p.used in record { no_fall = omega arith; one_more = omega arith }
 counted Off old new p = record { no_fall = p.no_fall; one_more = p.one_more }
 
-pub keeps_lines : (result : Work) (old new : Parts) → Keeps old new → SameStore old.store new.store → Powered result old.store new.store
+pub keeps_lines : (result : Work) (old new : Parts) → Keeps old new → SameLimits old.store new.store → Powers (stop_of_work result) old.store new.store
     → KeepsLines (lines_of old) (lines_of new)
 keeps_lines result old new k same powers =
     let count = counted result old.store new.store powers in
@@ -80,7 +85,7 @@ keeps_lines result old new k same powers =
       pinned = k.pinned;
       written = k.written;
       stay = k.stay;
-      sizes = record { pages = k.pages; room = same.capacity; most_steps = ap (λ (n : ℕ). n + 5) same.most_left };
+      sizes = record { pages = k.pages; room = same.capacity; most_steps = ap (λ (n : ℕ). n + 5) same.most_left; most_posts = k.room };
       no_fall = count.no_fall;
       one_more = count.one_more;
     }
@@ -94,7 +99,7 @@ drained_keeps old new d =
       pinned = d.pinned;
       written = d.written;
       stay = λ p kept_by resident. d.residence.resident p ∙ resident;
-      sizes = record { pages = d.residence.sizes.pages; room = d.residence.sizes.room; most_steps = d.residence.sizes.most_steps };
+      sizes = record { pages = d.residence.sizes.pages; room = d.residence.sizes.room; most_steps = d.residence.sizes.most_steps; most_posts = d.residence.sizes.most_posts };
       no_fall = omega arith;
       one_more = omega arith;
     }
@@ -107,6 +112,7 @@ same_keeps old new same = record {
   written = λ p. rw same refl;
   stay = λ p kept_by resident. rw same resident;
   pages = rw same refl;
+  room = rw same refl;
 }
 
 -- nothing was done
@@ -116,7 +122,7 @@ still_keeps d = record {
   pinned = λ p. refl;
   written = λ p. refl;
   stay = λ p kept_by resident. resident;
-  sizes = record { pages = refl; room = refl; most_steps = refl };
+  sizes = record { pages = refl; room = refl; most_steps = refl; most_posts = refl };
   no_fall = omega arith;
   one_more = omega arith;
 }

@@ -10,10 +10,10 @@ use Rattle.ff_lines.specs.declared.post.Post.{Post}
 use Rattle.ff_lines.proofs.PageCounts.{count_below-same}
 use Rattle.ff_lines.proofs.PageOverlaid.{length-page_overlaid, line_or_blank-laid, laid_on-other}
 use Rattle.ff_device.specs.Changes.{slot_after, Changes}
-use Rattle.ff_device.specs.DeviceFields.{lines_of}
+use Rattle.ff_device.specs.Device.{lines_of}
 use Rattle.ff_device.specs.Draining.{DrainsFirst, SameFrames}
 use Rattle.ff_device.specs.Parts.{Parts, cached, is_dirty, is_pinned, is_resident, is_written, line_below, page_below, IsDeviceSound, IsFlushing}
-use Rattle.ff_device.specs.Store.{Pending, is_mapped, page_bytes}
+use Rattle.ff_device.specs.StoreState.{PendingFlush, is_stored, stored_bytes}
 use Rattle.ff_device.proofs.Holding.{Changed, changed_by}
 
 pub record Laying (post : Post) (old new : Parts) : Type 0 where
@@ -71,9 +71,9 @@ laying_written post old new l p =
     elim (cases_eq p post.page.0) [
       | inl same ↦
           let after : is_written new p ≡ true =
-          rw (same, c.here) (written_dirty (is_mapped new.store post.page.0) (waits_in new.window.posts post.page.0)) in
+          rw (same, c.here) (written_dirty (is_stored new.store post.page.0) (waits_in new.window.posts post.page.0)) in
           let waited : waits_in old.window.posts p ≡ true = rw l.posts (waits_own post new.window.posts p same) in
-          after ∙ sym (written_own (is_mapped old.store p) (is_dirty old p) (waits_in old.window.posts p) waited)
+          after ∙ sym (written_own (is_stored old.store p) (is_dirty old p) (waits_in old.window.posts p) waited)
       | inr apart ↦
           rw (c.others p apart, l.store, l.posts, waits_other post new.window.posts p apart) refl
     ]
@@ -91,7 +91,7 @@ laying_below post old new l p line =
           rw (c.others p apart, l.store) (sym (laid_on-other post p line (line_below old p line) (λ e. apart (sym e))))
     ]
 
-laying_flushing : (post : Post) (old new : Parts) (flush : Pending) → Laying post old new → new.store.pending ≡ Some flush
+laying_flushing : (post : Post) (old new : Parts) (flush : PendingFlush) → Laying post old new → new.store.pending ≡ Some flush
     → IsFlushing new flush
 laying_flushing post old new flush l pending =
     let c = laying_changed post old new l in
@@ -115,7 +115,7 @@ laying_size post old new l p =
     ]
 
 laying_clean : (post : Post) (old new : Parts) → Laying post old new → (p : ℕ) (held : Slot) → cached new p ≡ Some held
-    → held.dirty ≡ false → held.bytes ≡ page_bytes new.store p
+    → held.dirty ≡ false → held.bytes ≡ stored_bytes new.store p
 laying_clean post old new l p held is clean =
     let c = laying_changed post old new l in
     elim (cases_eq p post.page.0) [
@@ -157,6 +157,7 @@ laying_drains post old new l = record {
       pages = ap (λ s. length s.pages) l.store;
       room = ap (λ s. s.capacity) l.store;
       most_steps = ap (λ s. s.most_left + 5) l.store;
+      most_posts = l.room;
     };
     resident = laying_resident post old new l;
     on = ap (λ s. s.on) l.store;

@@ -21,3 +21,8 @@ pub mod Raising
 pub mod Working
 pub mod Arriving
 pub mod Collecting
+pub mod SeenPages
+pub mod SeenRoom
+pub mod SeenSeals
+pub mod SeenSteps
+pub mod StoreCalls

@@ -13,17 +13,17 @@ use Rattle.ff_lines.specs.Posts.{waits_in, IsPost}
 use Rattle.ff_lines.specs.declared.post.Post.{Post}
 use Rattle.ff_lines.proofs.PageCounts.{count_below-same}
 use Rattle.ff_lines.proofs.PageOverlaid.{length-line_or_blank}
-use Rattle.ff_device.specs.DeviceFields.{lines_of}
+use Rattle.ff_device.specs.Device.{lines_of}
 use Rattle.ff_device.specs.Parts.{cached, is_dirty, is_resident, is_written, page_below, slot_passes, IsDeviceSound, Parts}
 use Rattle.ff_device.specs.Steps.{chosen_way, flush_steps, most_steps, soon_clean, steps_of_set, steps_of_way, steps_to}
-use Rattle.ff_device.specs.Store.{is_mapped, IsStoreViewSound, StoreView}
+use Rattle.ff_device.specs.StoreState.{is_stored, IsStoreStateSound, StoreState}
 use Rattle.ff_device.proofs.Drained.{PutsLast}
 
 either_most : (pending : Bool) (most left : ℕ) → left ≤ most → (if pending then most else left) ≤ most
 either_most true most left few = omega arith
 either_most false most left few = few
 
-flush_most : (store : StoreView) → store.left ≤ store.most_left → flush_steps store ≤ store.most_left + 2
+flush_most : (store : StoreState) → store.left ≤ store.most_left → flush_steps store ≤ store.most_left + 2
 flush_most store few = let most = either_most (is_some store.pending) store.most_left store.left few in omega arith
 
 at_most_if : (test : Bool) (n most : ℕ) → n ≤ most → (if test then 0 else n) ≤ most
@@ -63,8 +63,9 @@ pinned_held None is = cc
 pinned_held (Some slot) is = refl
 
 -- what every device keeps
-pub lines_device : (parts : Parts) → IsDeviceSound parts → IsStoreViewSound parts.store → IsDevice (lines_of parts)
-lines_device parts sound store = record {
+pub lines_device : (parts : Parts) → IsDeviceSound parts → IsStoreStateSound parts.store
+    → length parts.window.posts ≤ parts.window.room → IsDevice (lines_of parts)
+lines_device parts sound store few = record {
   sizes = λ page line. length-line_or_blank (page_below parts page) line (sound.size page);
   within = sound.pages;
   posts = sound.posts;
@@ -73,6 +74,7 @@ lines_device parts sound store = record {
   few = sound.room;
   zero_steps = λ page. zero_or_more (is_resident parts page) ((if is_some parts.store.pending then 1 else 0) + steps_of_set parts page);
   few_steps = λ page. steps_bounded parts page store.few;
+  few_posts = few;
 }
 
 -- the parts with a post put last
@@ -97,7 +99,7 @@ pub posted_written : (post : Post) (parts : Parts) (q : ℕ) → is_written (wit
 posted_written post parts q = rw (waits_last parts.window.posts post q) (elim (cases_eq q post.page.0) [
   | inl same ↦
       rw (eq-eqb q post.page.0 same, eq-eqb post.page.0 q (sym same))
-      (written_last (is_mapped parts.store q) (is_dirty parts q) (waits_in parts.window.posts q))
+      (written_last (is_stored parts.store q) (is_dirty parts q) (waits_in parts.window.posts q))
   | inr apart ↦
       rw (ne_eqb q post.page.0 apart, ne_eqb post.page.0 q (λ e. apart (sym e)), or_none (waits_in parts.window.posts q)) refl
 ])
@@ -132,7 +134,7 @@ posted_last post parts = record {
   pinned = λ page. refl;
   written = posted_written post parts;
   residence = record {
-    sizes = record { pages = refl; room = refl; most_steps = refl };
+    sizes = record { pages = refl; room = refl; most_steps = refl; most_posts = refl };
     resident = λ page. refl;
     on = refl;
     used = refl;

@@ -6,7 +6,7 @@ use Rattle.ff_cache.specs.Slots.{cache_slot_at, slot_pinned}
 use Rattle.ff_cache.specs.declared.slot.Slot.{Slot}
 use Rattle.ff_lines.specs.DeviceState.{IsPinned}
 use Rattle.ff_device.specs.Changes.{Changes}
-use Rattle.ff_device.specs.DeviceFields.{lines_of}
+use Rattle.ff_device.specs.Device.{lines_of}
 use Rattle.ff_device.specs.Parts.{IsDeviceSound, Parts}
 use Rattle.ff_device.proofs.Edits.{edited_flushing, edited_lines, edited_resident, edited_sound, edited_written, Edited}
 use Rattle.ff_device.proofs.Holding.{changed_by}
@@ -60,6 +60,7 @@ pinning_lines page on old new p =
           pages = e.pages;
           room = e.capacity;
           most_steps = ap (λ s. s.most_left + 5) p.store;
+          most_posts = ap (λ w. w.room) e.window;
         };
         resident = edited_resident page slot (slot_pinned on slot) old new e;
         on = ap (λ s. s.on) p.store;

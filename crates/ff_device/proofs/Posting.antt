@@ -3,7 +3,7 @@ use Rattle.std.proofs.Common.{◌≡◌, ◌≤◌, ℕ, Bool, true, false, List
 use Rattle.std.specs.Prelude.{if◌then◌else◌}
 use Rattle.ff_lines.specs.DeviceState.{DeviceState, IsPosted}
 use Rattle.ff_lines.specs.declared.post.Post.{Post}
-use Rattle.ff_device.specs.DeviceFields.{lines_of}
+use Rattle.ff_device.specs.Device.{lines_of}
 use Rattle.ff_device.specs.Draining.{DrainsFirst}
 use Rattle.ff_device.specs.Parts.{Parts}
 use Rattle.ff_device.proofs.Drained.{puts_after}

@@ -12,7 +12,7 @@ use Rattle.ff_lines.specs.Posts.{waits_in}
 use Rattle.ff_lines.proofs.PageCounts.{count_below-part}
 use Rattle.ff_device.specs.Changes.{Changes}
 use Rattle.ff_device.specs.Parts.{cached, is_dirty, is_written, IsDeviceSound, Parts}
-use Rattle.ff_device.specs.Store.{is_mapped, Pending}
+use Rattle.ff_device.specs.StoreState.{is_stored, PendingFlush}
 use Rattle.ff_device.proofs.Edits.{edited_sound, Edited}
 use Rattle.ff_device.proofs.Holding.{changed_by}
 
@@ -49,14 +49,14 @@ written_mapped m rest is = or_left m rest is
 
 -- there is room for its page
 pub dirty_room : (slot : ℕ) (page : PageNo) (old : Parts) → IsDirtySlot slot page old
-    → count_below (with_page page.0 (is_mapped old.store)) (length old.store.pages) ≤ old.store.capacity
+    → count_below (with_page page.0 (is_stored old.store)) (length old.store.pages) ≤ old.store.capacity
 dirty_room slot page old d =
-    let part = count_below-part (with_page page.0 (is_mapped old.store)) (is_written old) (length old.store.pages) (λ q is.
-    elim (or_cases (q == page.0) (is_mapped old.store q) is) [
+    let part = count_below-part (with_page page.0 (is_stored old.store)) (is_written old) (length old.store.pages) (λ q is.
+    elim (or_cases (q == page.0) (is_stored old.store q) is) [
       | inl same ↦
           rw (eqb-true q page.0 same, dirty_cached slot page old d, d.dirty)
-          (dirty_is_written (is_mapped old.store page.0) (waits_in old.window.posts page.0))
-      | inr mapped ↦ written_mapped (is_mapped old.store q) (is_dirty old q || waits_in old.window.posts q) mapped
+          (dirty_is_written (is_stored old.store page.0) (waits_in old.window.posts page.0))
+      | inr mapped ↦ written_mapped (is_stored old.store q) (is_dirty old q || waits_in old.window.posts q) mapped
     ]) in
     let room = d.sound.room in
     omega arith
@@ -97,7 +97,7 @@ programming_sound slot page old new p =
     edited_sound page.0 found (slot_flushing found) old new e p.slot_is.sound
     (λ clean. let both : true ≡ false = sym p.slot_is.dirty ∙ clean in absurd (cc))
     (λ flush is.
-    let flushing : Pending = record { page = page.0; bytes = found.bytes } in
+    let flushing : PendingFlush = record { page = page.0; bytes = found.bytes } in
     let both : Some flushing ≡ Some flush = sym p.pending ∙ is in
     let one : flushing ≡ flush = cc in
     rw (sym one) (record { slot = slot_flushing found; held = e.changed.here; dirty = p.slot_is.dirty; same = λ calm. refl }))

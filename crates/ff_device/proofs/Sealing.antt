@@ -8,7 +8,8 @@ use Rattle.ff_cache.specs.declared.slot.Slot.{Slot}
 use Rattle.ff_lines.specs.Posts.{waits_in}
 use Rattle.ff_device.specs.Changes.{Changes}
 use Rattle.ff_device.specs.Parts.{cached, is_written, IsDeviceSound, Parts}
-use Rattle.ff_device.specs.Store.{mapped, IsStoreViewSound, SealsPage, StoreView}
+use Rattle.ff_device.specs.StoreState.{stored_in, IsStoreStateSound, StoreState}
+use Rattle.ff_device.specs.StoreSteps.{StoresPage}
 use Rattle.ff_device.proofs.Edits.{edited_sound, Edited}
 use Rattle.ff_device.proofs.Holding.{changed_by}
 
@@ -17,7 +18,7 @@ some_held None slot is = absurd (cc)
 some_held (Some found) slot is = refl
 
 -- the page of the flush is cached
-pub sealed_held : (old : Parts) (page : ℕ) (new : StoreView) → IsDeviceSound old → SealsPage page old.store new
+pub sealed_held : (old : Parts) (page : ℕ) (new : StoreState) → IsDeviceSound old → StoresPage page old.store new
     → IsSome (held old.cache.slots page)
 sealed_held old page new sound seals =
     let f = sound.flushing seals.flush seals.waited in
@@ -26,8 +27,8 @@ sealed_held old page new sound seals =
 pub record Sealing (page : ℕ) (old new : Parts) : Type 0 where
   pub sound : IsDeviceSound old
   pub cache : IsCacheSound old.cache
-  pub store : IsStoreViewSound old.store
-  pub seals : SealsPage page old.store new.store
+  pub store : IsStoreStateSound old.store
+  pub seals : StoresPage page old.store new.store
   pub ends : Changes page slot_flushed old.cache new.cache
   pub window : new.window ≡ old.window
   pub capacity : new.store.capacity ≡ old.store.capacity
@@ -38,7 +39,7 @@ sealing_slot page old new s = cache_slot_at old.cache.slots s.ends.place
 sealing_within : (page : ℕ) (old new : Parts) → Sealing page old new → page < length old.store.pages
 sealing_within page old new s = rw (sym s.seals.page_is) (s.store.pending s.seals.flush s.seals.waited)
 
-pub sealing_mapped : (page : ℕ) (old new : Parts) → (s : Sealing page old new) → mapped new.store page ≡ Some s.seals.flush.bytes
+pub sealing_mapped : (page : ℕ) (old new : Parts) → (s : Sealing page old new) → stored_in new.store page ≡ Some s.seals.flush.bytes
 sealing_mapped page old new s =
     rw s.seals.pages (get_or-set_same old.store.pages page (Some s.seals.flush.bytes) None (sealing_within page old new s))
 
@@ -63,7 +64,7 @@ sealing_written page old new s =
     let after : is_written new page ≡ true = rw (sealing_mapped page old new s) refl in
     let dirty : (sealing_slot page old new s).dirty ≡ true = (sealing_flush page old new s).0 in
     let before : is_written old page ≡ true =
-    rw (s.ends.held, dirty) (dirty_written (is_some (mapped old.store page)) (waits_in old.window.posts page)) in
+    rw (s.ends.held, dirty) (dirty_written (is_some (stored_in old.store page)) (waits_in old.window.posts page)) in
     after ∙ sym before
 
 pub sealing_edited : (page : ℕ) (old new : Parts) → (s : Sealing page old new)

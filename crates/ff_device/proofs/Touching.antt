@@ -7,7 +7,7 @@ use Rattle.ff_cache.specs.Cache.{with_value, CacheView, IsSlotOf}
 use Rattle.ff_cache.specs.Slots.{cache_slot_at}
 use Rattle.ff_lines.specs.DeviceState.{DeviceState, IsDrained, SameResidence}
 use Rattle.ff_rrip.specs.Ways.{near_value}
-use Rattle.ff_device.specs.DeviceFields.{lines_of}
+use Rattle.ff_device.specs.Device.{lines_of}
 use Rattle.ff_device.specs.Draining.{DrainsFirst, HitIf, SameFrames}
 use Rattle.ff_device.specs.Parts.{line_below, IsDeviceSound, Parts}
 
@@ -17,7 +17,7 @@ with_values values parts = record parts { cache = record parts.cache { values = 
 residence_values : (a : DeviceState) (parts : Parts) (values : List (List ℕ)) → SameResidence a (lines_of parts)
     → SameResidence a (lines_of (with_values values parts))
 residence_values a parts values r = record {
-  sizes = record { pages = r.sizes.pages; room = r.sizes.room; most_steps = r.sizes.most_steps };
+  sizes = record { pages = r.sizes.pages; room = r.sizes.room; most_steps = r.sizes.most_steps; most_posts = r.sizes.most_posts };
   resident = r.resident;
   on = r.on;
   used = r.used;

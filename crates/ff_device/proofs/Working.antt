@@ -13,12 +13,13 @@ use Rattle.ff_lines.specs.Works.{KeepsLines, Works}
 use Rattle.ff_lines.specs.declared.device.Work.{Work}
 use Rattle.ff_lines.specs.declared.device.Work.TheVariants.{Ready, Stepped, Pinned, Failed, Off}
 use Rattle.ff_lines.specs.declared.post.Post.{Post}
-use Rattle.ff_device.specs.DeviceFields.{lines_of}
+use Rattle.ff_device.specs.Device.{lines_of}
 use Rattle.ff_device.specs.Draining.{SameFrames}
 use Rattle.ff_device.specs.Parts.{is_resident, IsDeviceSound, Parts}
 use Rattle.ff_device.specs.Steps.{chosen_way, may_go, page_waits, soon_clean, steps_to}
-use Rattle.ff_device.specs.Store.{IsStoreViewSound, Pending, SameStore}
-use Rattle.ff_device.specs.WorkRows.{FetchRow, FlushRow, IsFetched, IsProgrammed, IsRaised, HasSealed, IsStep, NoWayRow, Powered, SealRow}
+use Rattle.ff_device.specs.StoreState.{IsStoreStateSound, PendingFlush}
+use Rattle.ff_device.specs.StoreSteps.{Powers, SameLimits}
+use Rattle.ff_device.specs.WorkRows.{FetchRow, FlushRow, IsFetched, HasProgrammed, IsRaised, HasSealed, IsWorkStep, NoWayRow, SealRow, stop_of_work}
 use Rattle.ff_device.specs.WorkRows.{seals, fills, no_way, replaces, flushes}
 use Rattle.ff_device.proofs.Edits.{edited_resident}
 use Rattle.ff_device.proofs.Falls.{collected_falls, drained_falls, fetched_falls, flushing_soon, programmed_falls, sealed_falls}
@@ -42,12 +43,12 @@ none_of (Some slot) is = absurd (cc)
 pub record Working (page : ℕ) (old new : Parts) : Type 0 where
   pub sound : IsDeviceSound old
   pub cache : IsCacheSound old.cache
-  pub store : IsStoreViewSound old.store
+  pub store : IsStoreStateSound old.store
   pub in_range : page < length old.store.pages
   pub absent : held old.cache.slots page ≡ None
   pub on : old.store.on ≡ true
-  pub after : IsStoreViewSound new.store
-  pub same : SameStore old.store new.store
+  pub after : IsStoreStateSound new.store
+  pub same : SameLimits old.store new.store
 
 -- the rows keep the lines, and a step that was made leaves fewer steps
 pub record Row (page : ℕ) (result : Work) (old new : Parts) : Type 0 where
@@ -133,7 +134,7 @@ pub record IsVictimSlot (page slot way : ℕ) (old : Parts) : Type 0 where
   pub idle : old.store.pending ≡ None
 
 programming_of : (page slot way : ℕ) (old new : Parts) → Working page old new → IsVictimSlot page slot way old
-    → (p : IsProgrammed slot old new) → Programming slot p.page old new
+    → (p : HasProgrammed slot old new) → Programming slot p.page old new
 programming_of page slot way old new w v p = record {
   slot_is = record { sound = w.sound; cache = w.cache; within = v.within; is = p.held; dirty = v.dirty };
   begins = p.cache;
@@ -144,7 +145,7 @@ programming_of page slot way old new w v p = record {
 }
 
 -- the slot is clean once the flush is sealed
-programmed_soon : (page slot way : ℕ) (old new : Parts) → Working page old new → IsVictimSlot page slot way old → (p : IsProgrammed slot old new)
+programmed_soon : (page slot way : ℕ) (old new : Parts) → Working page old new → IsVictimSlot page slot way old → (p : HasProgrammed slot old new)
     → soon_clean new.store.pending (way_at new.cache page way) ≡ true
 programmed_soon page slot way old new w v p =
     let own : holds (cache_slot_at old.cache.slots slot) p.page.0 ≡ true = rw p.held (eq-eqb p.page.0 p.page.0 refl) in
@@ -156,7 +157,7 @@ programmed_soon page slot way old new w v p =
     rw (p.cache.is, there, get_or-set_same old.cache.slots p.cache.place (slot_flushing found) empty_slot p.cache.within) refl in
     rw (p.pending, way_is) (flushing_soon p.page.0 (cache_slot_at old.cache.slots slot).bytes found p.cache.holds)
 
-programmed_row : (page slot way : ℕ) (old new : Parts) → Working page old new → IsVictimSlot page slot way old → IsProgrammed slot old new
+programmed_row : (page slot way : ℕ) (old new : Parts) → Working page old new → IsVictimSlot page slot way old → HasProgrammed slot old new
     → Row page Stepped old new
 programmed_row page slot way old new w v p =
     let programming = programming_of page slot way old new w v p in
@@ -251,7 +252,7 @@ empty_place page slot old cache idle e =
     record { place = e.in_set; clean = clean; goes = rw (unpinned, unposted) refl; idle = idle }
 
 pub works_row : (page : ℕ) (result : Work) (old new : Parts) → Working page old new → Row page result old new
-    → Powered result old.store new.store → Works page result (lines_of old) (lines_of new)
+    → Powers (stop_of_work result) old.store new.store → Works page result (lines_of old) (lines_of new)
 works_row page Ready old new w row powers = absurd (row.busy refl)
 works_row page Stepped old new w row powers =
     (absent_no old page w.absent, row.falls refl, record { was = w.on; on = powers.on ∙ w.on; faults = powers.faults })
@@ -262,8 +263,8 @@ works_row page Off old new w row powers =
     record { on = powers.on; cut = λ was. (absent_no old page w.absent, powers.cut was) }
 
 -- no way may give way
-no_way_keeps : (page : ℕ) (result : Work) (old new : Parts) → NoWayRow page result old new → SameStore old.store new.store
-    → Powered result old.store new.store → KeepsLines (lines_of old) (lines_of new)
+no_way_keeps : (page : ℕ) (result : Work) (old new : Parts) → NoWayRow page result old new → SameLimits old.store new.store
+    → Powers (stop_of_work result) old.store new.store → KeepsLines (lines_of old) (lines_of new)
 no_way_keeps page Stepped old new n same powers = drained_keeps old new n.1
 no_way_keeps page (Pinned named) old new n same powers = keeps_lines (Pinned named) old new (same_keeps old new n.1) same powers
 no_way_keeps page Ready old new n same powers = absurd n
@@ -282,7 +283,7 @@ first_holds cache page named sound is =
 
 no_way_works : (page : ℕ) (result : Work) (old new : Parts) → Working page old new → NoWayRow page result old new
     → old.store.pending ≡ None → is_full_set old.cache page ≡ true → chosen_way old page ≡ None
-    → Powered result old.store new.store → Works page result (lines_of old) (lines_of new)
+    → Powers (stop_of_work result) old.store new.store → Works page result (lines_of old) (lines_of new)
 no_way_works page Stepped old new w n idle full none powers =
     let still : held new.cache.slots page ≡ None =
     none_of (held new.cache.slots page) (n.1.residence.resident page ∙ absent_no old page w.absent) in (
@@ -307,12 +308,12 @@ pub record Promised (page : ℕ) (result : Work) (old new : Parts) : Type 0 wher
   pub keeps : KeepsLines (lines_of old) (lines_of new)
 
 promised_row : (page : ℕ) (result : Work) (old new : Parts) → Working page old new → Row page result old new
-    → Powered result old.store new.store → Promised page result old new
+    → Powers (stop_of_work result) old.store new.store → Promised page result old new
 promised_row page result old new w row powers =
     record { works = works_row page result old new w row powers; keeps = keeps_lines result old new row.keeps w.same powers }
 
-pub step_promised : (page : ℕ) (result : Work) (old new : Parts) → Working page old new → IsStep page old result new
-    → Powered result old.store new.store → Promised page result old new
+pub step_promised : (page : ℕ) (result : Work) (old new : Parts) → Working page old new → IsWorkStep page old result new
+    → Powers (stop_of_work result) old.store new.store → Promised page result old new
 step_promised page result old new w (seals waits row) powers = promised_row page result old new w (seal_row page result old new w row) powers
 step_promised page result old new w (fills idle slot empty row) powers =
     promised_row page result old new w (fetch_row page slot result old new w (empty_place page slot old w.cache idle empty) row) powers
@@ -333,9 +334,15 @@ step_promised page result old new w (flushes idle full slot mid raised dirty row
 -- the first row: a flush waits, a way is empty, none may give way, or one was chosen
 pub raised_step : (page slot : ℕ) (result : Work) (old mid new : Parts) → old.store.pending ≡ None → is_full_set old.cache page ≡ true
     → IsRaised page slot old mid
+<<<<<<< HEAD
     → ((cache_slot_at mid.cache.slots slot).dirty ≡ true → FlushRow slot result mid new)
     → ((cache_slot_at mid.cache.slots slot).dirty ≡ false → FetchRow page slot result mid new)
     → IsStep page old result new
+=======
+    → ((cache_slot_at mid.cache.slots slot).dirty ≡ true → FlushRow slot result mid new)
+    → ((cache_slot_at mid.cache.slots slot).dirty ≡ false → FetchRow page slot result mid new)
+    → IsWorkStep page old result new
+>>>>>>> e7683868755622e2d1da9dc1c3bc4a9cc8ae91c6
 raised_step page slot result old mid new idle full raised dirty clean =
     let same : cache_slot_at mid.cache.slots slot ≡ cache_slot_at old.cache.slots slot = ap (λ m. cache_slot_at m.cache.slots slot) raised.is in
     elim (cases_Bool (cache_slot_at old.cache.slots slot).dirty) [
@@ -360,14 +367,14 @@ pub empty_goes : (page slot : ℕ) (old : Parts) → IsCacheSound old.cache → 
 empty_goes page slot old cache idle e = let p = empty_place page slot old cache idle e in (p.clean, p.goes)
 
 -- whether a flush waits
-pub pending_some : (page : Option PageNo) (waits : Option Pending) → option_map (λ p. p.0) page ≡ option_map (λ f. f.page) waits
+pub pending_some : (page : Option PageNo) (waits : Option PendingFlush) → option_map (λ p. p.0) page ≡ option_map (λ f. f.page) waits
     → is_some page ≡ is_some waits
 pending_some None None same = refl
 pending_some None (Some flush) same = absurd (cc)
 pending_some (Some page) None same = absurd (cc)
 pending_some (Some page) (Some flush) same = refl
 
-pub pending_none : (waits : Option Pending) → is_some waits ≡ false → waits ≡ None
+pub pending_none : (waits : Option PendingFlush) → is_some waits ≡ false → waits ≡ None
 pending_none None is = refl
 pending_none (Some flush) is = absurd (cc)
 

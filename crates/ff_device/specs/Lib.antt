@@ -1,8 +1,10 @@
 pub mod Changes
 pub mod Chosen
-pub mod DeviceFields
+pub mod CollectTurn
+pub mod Device
 pub mod Draining
 pub mod Parts
 pub mod Steps
-pub mod Store
+pub mod StoreState
+pub mod StoreSteps
 pub mod WorkRows

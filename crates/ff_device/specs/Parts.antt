@@ -8,11 +8,11 @@ use Rattle.ff_lines.specs.BlankLine.{line_or_blank}
 use Rattle.ff_lines.specs.PageSets.{count_below}
 use Rattle.ff_lines.specs.Posts.{waits_in, IsPost}
 use Rattle.ff_window.specs.Window.{WindowView}
-use Rattle.ff_device.specs.Store.{Pending, StoreView, is_mapped, page_bytes}
+use Rattle.ff_device.specs.StoreState.{PendingFlush, StoreState, is_stored, stored_bytes}
 
 -- the store as it is seen, the cache and the window
 pub record Parts : Type 0 where
-  pub store : StoreView
+  pub store : StoreState
   pub cache : CacheView
   pub window : WindowView
 
@@ -26,7 +26,7 @@ bytes_over None below = below
 bytes_over (Some slot) below = slot.bytes
 
 abbrev pub page_below : Parts → ℕ → List ℕ
-page_below parts page = bytes_over (cached parts page) (page_bytes parts.store page)
+page_below parts page = bytes_over (cached parts page) (stored_bytes parts.store page)
 
 abbrev pub line_below : Parts → ℕ → ℕ → List ℕ
 line_below parts page line = line_or_blank (page_below parts page) line
@@ -48,10 +48,10 @@ is_dirty parts page = slot_passes (λ slot. slot.dirty) (cached parts page)
 -- the page is mapped, is cached dirty or has a waiting post
 abbrev pub is_written : Parts → ℕ → Bool
 is_written parts page =
-    is_mapped parts.store page || (is_dirty parts page || waits_in parts.window.posts page)
+    is_stored parts.store page || (is_dirty parts page || waits_in parts.window.posts page)
 
 -- the flush that is to be sealed is of a dirty slot, which holds the programmed bytes unless it was touched since
-pub record IsFlushing (parts : Parts) (flush : Pending) : Type 0 where
+pub record IsFlushing (parts : Parts) (flush : PendingFlush) : Type 0 where
   pub slot : Slot
   pub held : cached parts flush.page ≡ Some slot
   pub dirty : slot.dirty ≡ true
@@ -62,7 +62,7 @@ pub record CanBegin (parts : Parts) : Type 0 where
   pub pages : (page : ℕ) → is_resident parts page ≡ true → page < length parts.store.pages
   pub size : (page : ℕ) → length (page_below parts page) ≡ 4096
   pub clean : (page : ℕ) (slot : Slot) → cached parts page ≡ Some slot → slot.dirty ≡ false
-      → slot.bytes ≡ page_bytes parts.store page
+      → slot.bytes ≡ stored_bytes parts.store page
   pub idle : parts.store.pending ≡ None
   pub empty : parts.window.posts ≡ []
   pub room : count_below (is_written parts) (length parts.store.pages) ≤ parts.store.capacity
@@ -73,8 +73,8 @@ pub record IsDeviceSound (parts : Parts) : Type 0 where
   pub pages : (page : ℕ) → is_resident parts page ≡ true → page < length parts.store.pages
   pub size : (page : ℕ) → length (page_below parts page) ≡ 4096
   pub clean : (page : ℕ) (slot : Slot) → cached parts page ≡ Some slot → slot.dirty ≡ false
-      → slot.bytes ≡ page_bytes parts.store page
-  pub flushing : (flush : Pending) → parts.store.pending ≡ Some flush → IsFlushing parts flush
+      → slot.bytes ≡ stored_bytes parts.store page
+  pub flushing : (flush : PendingFlush) → parts.store.pending ≡ Some flush → IsFlushing parts flush
   pub posts : All IsPost parts.window.posts
   pub waiting : (page : ℕ) → waits_in parts.window.posts page ≡ true → is_resident parts page ≡ true
   pub room : count_below (is_written parts) (length parts.store.pages) ≤ parts.store.capacity

@@ -9,7 +9,7 @@ use Rattle.ff_lines.specs.Posts.{waits_in}
 use Rattle.ff_lines.specs.declared.post.Post.{Post}
 use Rattle.ff_device.specs.Chosen.{chosen}
 use Rattle.ff_device.specs.Parts.{is_resident, Parts}
-use Rattle.ff_device.specs.Store.{Pending, StoreView}
+use Rattle.ff_device.specs.StoreState.{PendingFlush, StoreState}
 
 -- a post to the slot's page waits
 abbrev pub page_waits : List Post → Option PageNo → Bool
@@ -29,21 +29,21 @@ abbrev pub chosen_way : Parts → ℕ → Option ℕ
 chosen_way parts page = chosen (may_go_at parts page) (values_of parts.cache page)
 
 -- the slot's page is the one whose flush is to be sealed
-abbrev pub is_flushed : Option Pending → Slot → Bool
+abbrev pub is_flushed : Option PendingFlush → Slot → Bool
 is_flushed None slot = false
 is_flushed (Some flush) slot = holds slot flush.page
 
 -- the slot is clean, or will be when the flush is sealed
-abbrev pub soon_clean : Option Pending → Slot → Bool
+abbrev pub soon_clean : Option PendingFlush → Slot → Bool
 soon_clean pending slot = not slot.dirty || (is_flushed pending slot && not slot.touched)
 
 -- the steps of a flush that begins: those of the collector, the program and the seal. While another flush is to be
 -- sealed, the collector's are counted as the most that they can be
-abbrev pub flush_steps : StoreView → ℕ
+abbrev pub flush_steps : StoreState → ℕ
 flush_steps store = (if is_some store.pending then store.most_left else store.left) + 2
 
 -- the steps before a page can be fetched in the place of a slot
-abbrev pub steps_of_slot : StoreView → Slot → ℕ
+abbrev pub steps_of_slot : StoreState → Slot → ℕ
 steps_of_slot store slot = if soon_clean store.pending slot then 0 else flush_steps store
 
 -- the steps before the page can be fetched in the place of the way that gives way; where none may, the window is drained
@@ -64,5 +64,5 @@ steps_to parts page =
     else suc ((if is_some parts.store.pending then 1 else 0) + steps_of_set parts page)
 
 -- the most that it can be
-abbrev pub most_steps : StoreView → ℕ
+abbrev pub most_steps : StoreState → ℕ
 most_steps store = store.most_left + 5

@@ -1,25 +1,32 @@
 -- The rows of a step of work, the first of which that applies is made.
-use Rattle.std.specs.Prelude.{ℕ, ◌<◌, ◌≡◌, ◌⊎◌, true, false, None, Some, slice_set}
+use Rattle.std.specs.Prelude.{ℕ, ◌<◌, ◌≡◌, ◌⊎◌, true, false, Option, None, Some, slice_set}
 use Rattle.std.specs.Option.{is_some}
 use Rattle.ff_base.specs.declared.numbers.PageNo.{PageNo}
 use Rattle.ff_cache.specs.Cache.{is_full_set, way_at, with_value, IsChosen, IsEmptyWay}
+<<<<<<< HEAD
 use Rattle.ff_cache.specs.Slots.{cache_slot_at, slot_filled, slot_flushed, slot_flushing}
+=======
+use Rattle.ff_cache.specs.Slots.{cache_slot_at, slot_filled, slot_flushed, slot_flushing}
+use Rattle.ff_flash.specs.declared.flash.FlashStop.{FlashStop}
+use Rattle.ff_flash.specs.declared.flash.FlashStop.TheVariants.{Failed as FailedStop, Off as OffStop}
+>>>>>>> e7683868755622e2d1da9dc1c3bc4a9cc8ae91c6
 use Rattle.ff_lines.specs.DeviceState.{IsDrained}
 use Rattle.ff_lines.specs.declared.device.Work.{Work}
 use Rattle.ff_lines.specs.declared.device.Work.TheVariants.{Ready, Stepped, Pinned, Failed, Off}
 use Rattle.ff_rrip.specs.Ways.{is_allowed, long_value}
 use Rattle.ff_device.specs.Changes.{Changes}
-use Rattle.ff_device.specs.DeviceFields.{lines_of}
+use Rattle.ff_device.specs.Device.{lines_of}
 use Rattle.ff_device.specs.Draining.{SameFrames}
 use Rattle.ff_device.specs.Parts.{Parts}
 use Rattle.ff_device.specs.Steps.{chosen_way, may_go_at}
-use Rattle.ff_device.specs.Store.{page_bytes, DidFail, SealsPage, StoreView, WentOff, WentOn}
+use Rattle.ff_device.specs.StoreState.{stored_bytes}
+use Rattle.ff_device.specs.StoreSteps.{StoresPage}
 
--- what an answer says of power, operations and faults
-abbrev pub Powered : Work → StoreView → StoreView → Type 0
-Powered Failed old new = DidFail old new
-Powered Off old new = WentOff old new
-Powered _ old new = WentOn old new
+-- how an answer stopped, if it did
+abbrev pub stop_of_work : Work → Option FlashStop
+stop_of_work Failed = Some FailedStop
+stop_of_work Off = Some OffStop
+stop_of_work _ = None
 
 -- the cache and the window are as before, and so are the pages of the store
 pub record IsStopped (old new : Parts) : Type 0 where
@@ -30,14 +37,14 @@ pub record IsStopped (old new : Parts) : Type 0 where
 -- the flush that waited was sealed: the slot of its page is clean, unless it was touched since the program
 pub record HasSealed (old new : Parts) : Type 0 where
   pub page : ℕ
-  pub sealed : SealsPage page old.store new.store
+  pub sealed : StoresPage page old.store new.store
   pub cache : Changes page slot_flushed old.cache new.cache
   pub window : new.window ≡ old.window
 
 -- a page was fetched into a slot
 pub record IsFetched (page slot : ℕ) (old new : Parts) : Type 0 where
   pub cache : new.cache ≡ record old.cache {
-    slots = slice_set old.cache.slots slot (slot_filled page (page_bytes old.store page));
+    slots = slice_set old.cache.slots slot (slot_filled page (stored_bytes old.store page));
     values = with_value old.cache slot long_value;
   }
   pub window : new.window ≡ old.window
@@ -45,7 +52,7 @@ pub record IsFetched (page slot : ℕ) (old new : Parts) : Type 0 where
   pub pending : new.store.pending ≡ old.store.pending
 
 -- the bytes of a slot were programmed
-pub record IsProgrammed (slot : ℕ) (old new : Parts) : Type 0 where
+pub record HasProgrammed (slot : ℕ) (old new : Parts) : Type 0 where
   pub page : PageNo
   pub held : (cache_slot_at old.cache.slots slot).page ≡ Some page
   pub cache : Changes page.0 slot_flushing old.cache new.cache
@@ -96,7 +103,7 @@ FetchRow page slot (Pinned other) old new = ⊥
 
 -- a step of the flush of a slot
 abbrev pub FlushRow : ℕ → Work → Parts → Parts → Type 0
-FlushRow slot Stepped old new = IsProgrammed slot old new ⊎ IsCollected old new
+FlushRow slot Stepped old new = HasProgrammed slot old new ⊎ IsCollected old new
 FlushRow slot Failed old new = IsStopped old new × (new.store.pending ≡ None)
 FlushRow slot Off old new = IsStopped old new × (new.store.pending ≡ None)
 FlushRow slot Ready old new = ⊥
@@ -114,36 +121,18 @@ NoWayRow page Off old new = ⊥
 
 -- a step for a page that isn't resident: the first row that applies. A chosen way that is clean gives way, and one that is
 -- dirty is flushed
-pub data IsStep (page : ℕ) (old : Parts) (result : Work) (new : Parts) : Type 0 where
-  seals : is_some old.store.pending ≡ true → SealRow result old new → IsStep page old result new
+pub data IsWorkStep (page : ℕ) (old : Parts) (result : Work) (new : Parts) : Type 0 where
+  seals : is_some old.store.pending ≡ true → SealRow result old new → IsWorkStep page old result new
   fills : old.store.pending ≡ None → (slot : ℕ) → IsEmptyWay old.cache page slot
       → FetchRow page slot result old new
-      → IsStep page old result new
+      → IsWorkStep page old result new
   no_way : old.store.pending ≡ None → is_full_set old.cache page ≡ true → chosen_way old page ≡ None
-      → NoWayRow page result old new → IsStep page old result new
+      → NoWayRow page result old new → IsWorkStep page old result new
   replaces : old.store.pending ≡ None → is_full_set old.cache page ≡ true → (slot : ℕ) (mid : Parts)
       → IsRaised page slot old mid → (cache_slot_at old.cache.slots slot).dirty ≡ false
       → FetchRow page slot result mid new
-      → IsStep page old result new
+      → IsWorkStep page old result new
   flushes : old.store.pending ≡ None → is_full_set old.cache page ≡ true → (slot : ℕ) (mid : Parts)
       → IsRaised page slot old mid → (cache_slot_at old.cache.slots slot).dirty ≡ true
       → FlushRow slot result mid new
-      → IsStep page old result new
-
--- a step of the collector
-abbrev pub CollectRow : Work → Parts → Parts → Type 0
-CollectRow Stepped old new = IsStopped old new × (new.store.pending ≡ None)
-CollectRow Failed old new = IsStopped old new × (new.store.pending ≡ None)
-CollectRow Off old new = IsStopped old new × (new.store.pending ≡ None)
-CollectRow Ready old new = ⊥
-CollectRow (Pinned other) old new = ⊥
-
--- a turn of the collector: a flush that waits is sealed, or a collection that runs or is due makes a step
-pub data IsCollectTurn (old : Parts) (result : Work) (new : Parts) : Type 0 where
-  turn_off : old.store.on ≡ false → result ≡ Off → new ≡ old → IsCollectTurn old result new
-  turn_seals : is_some old.store.pending ≡ true → SealRow result old new
-      → IsCollectTurn old result new
-  turn_collects : old.store.pending ≡ None → old.store.wants ≡ true
-      → CollectRow result old new → IsCollectTurn old result new
-  turn_idle : old.store.pending ≡ None → old.store.wants ≡ false → result ≡ Ready → new ≡ old
-      → IsCollectTurn old result new
+      → IsWorkStep page old result new

@@ -1,6 +1,12 @@
 // A device and its parts.
-ghost use Rattle.std.specs.Prelude.{◌≡◌, false, MatchResult};
-ghost use Rattle.ff_device.specs.DeviceFields.{parts_of};
+ghost use Rattle.std.specs.Prelude.{◌≡◌, MatchResult};
+ghost use Rattle.ff_flash.specs.FlashState.{powered_off};
+ghost use Rattle.ff_space.specs.BlockTable.{IsTableSound};
+ghost use Rattle.ff_map.specs.PageMap.{IsMapSound};
+ghost use Rattle.ff_store.specs.PageStore.{IsStoreSound};
+ghost use Rattle.ff_cache.specs.Cache.{IsCacheSound};
+ghost use Rattle.ff_window.specs.Window.{IsWindowSound};
+ghost use Rattle.ff_device.specs.Device.{parts_of};
 ghost use Rattle.ff_device.specs.Parts.{CanBegin, IsDeviceSound};
 
 mod arriving;
@@ -14,52 +20,53 @@ mod posting;
 mod slots;
 mod working;
 
-use crate::Store;
 use ff_base::PageBuf;
 use ff_cache::Cache;
+use ff_flash::Flash;
+use ff_store::PageStore;
 use ff_window::Window;
 use std::alloc::Global;
 use std::marker::Model;
 
 /// A cache and a window over a store. Its bytes are the waiting posts over the cached pages over those of the store.
 #[derive(Drop)]
-pub struct Device<S: Store> {
-    store: S,
+pub struct Device<F: Flash> {
+    store: PageStore<F>,
     cache: Cache,
     window: Window,
     page: PageBuf,
 }
 
-impl<S: Store> Model for Device<S> {
-    ghost use Rattle.ff_device.specs.DeviceFields.{DeviceView};
+impl<F: Flash> Model for Device<F> {
+    ghost use Rattle.ff_device.specs.Device.{parts_of, DeviceView};
     ghost use Rattle.ff_device.specs.Parts.{IsDeviceSound};
 
-    ghost Value = { DeviceView S };
+    ghost Value = { DeviceView };
 
     ghost view = { λ d. record { store = d.store; cache = d.cache; window = d.window } };
 
     ghost invariant = { λ d. IsDeviceSound
-        (record { store = S.seen d.store; cache = d.cache; window = d.window }) };
+        (parts_of (record { store = d.store; cache = d.cache; window = d.window })) };
 }
 
 /// A device's parts, handed out or back.
 #[derive(Drop)]
-pub struct DeviceParts<S> {
-    pub store: S,
+pub struct DeviceParts<F: Flash> {
+    pub store: PageStore<F>,
     pub cache: Cache,
     pub window: Window,
 }
 
-impl<S: Store> Device<S> {
+impl<F: Flash> Device<F> {
     /// A device of parts of one geometry, with nothing in flight. For want of memory the parts are handed back.
     #[tactic(auto, using(crate::proofs::Beginning::begins))]
     pub fn new(
         alloc: Global,
-        store: S,
+        store: PageStore<F>,
         cache: Cache,
         window: Window,
-    ) -> Result<Device<S>, DeviceParts<S>>
-        requires { CanBegin (record { store = S.seen store; cache = cache; window = window }) }
+    ) -> Result<Device<F>, DeviceParts<F>>
+        requires { CanBegin (parts_of (record { store = store; cache = cache; window = window })) }
         ensures { MatchResult result
             (λ device. device ≡ record { store = store; cache = cache; window = window })
             (λ parts. parts ≡ record { store = store; cache = cache; window = window }) }
@@ -79,21 +86,28 @@ impl<S: Store> Device<S> {
         }
     }
 
-    /// What every device keeps. For the prover alone.
+    /// What every device keeps, and its parts. For the prover alone.
     pub fn known(&self)
-        ensures { IsDeviceSound (parts_of S.seen self.now) }
+        ensures device { IsDeviceSound (parts_of self.now) }
+        ensures store { IsStoreSound self.now.store }
+        ensures table { IsTableSound self.now.store.world.table }
+        ensures map { IsMapSound self.now.store.world.places }
+        ensures cache { IsCacheSound self.now.cache }
+        ensures window { IsWindowSound self.now.window }
     {
-        let _ = &self.page;
+        self.store.known();
+        self.cache.known();
+        let _few = self.window.len();
     }
 
-    pub fn store(&self) -> &S
+    pub fn store(&self) -> &PageStore<F>
         ensures { result.now ≡ self.now.store }
     {
         &self.store
     }
 
     /// The store, the cache and the window.
-    pub fn into_parts(self) -> DeviceParts<S>
+    pub fn into_parts(self) -> DeviceParts<F>
         ensures { result ≡ record { store = self.store; cache = self.cache; window = self.window } }
     {
         let Device {
@@ -111,9 +125,11 @@ impl<S: Store> Device<S> {
 
     /// Turns the power off. Nothing else changes.
     pub fn power_off(&mut self)
-        ensures store { S.seen self.new.store ≡ record (S.seen self.old.store) { on = false } }
-        ensures cache { self.new.cache ≡ self.old.cache }
-        ensures window { self.new.window ≡ self.old.window }
+        ensures { self.new ≡ record self.old {
+          store = record self.old.store {
+            world = record self.old.store.world { flash = powered_off self.old.store.world.flash };
+          };
+        } }
     {
         self.store.power_off();
     }

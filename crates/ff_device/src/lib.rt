@@ -1,8 +1,7 @@
-//! The device of lines over a store of flash pages: a window of posts over a cache over the store.
+//! The device of lines over the flash store: a window of posts over a cache over the store.
 #![tactic(auto)]
 
 mod device;
-mod store;
+mod store_steps;
 
 pub use device::{Device, DeviceParts};
-pub use store::{FlushStep, Store};

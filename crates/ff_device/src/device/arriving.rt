@@ -1,12 +1,13 @@
 // What a power loss leaves of the posts.
 ghost use Rattle.std.specs.Prelude.{◌≡◌, ℕ, [], drop, take, length};
-ghost use Rattle.ff_device.specs.DeviceFields.{parts_of};
+ghost use Rattle.ff_device.specs.Device.{parts_of};
 ghost use Rattle.ff_device.specs.Parts.{is_resident, line_below};
 ghost use Rattle.ff_lines.specs.PageSets.{SameSet};
 ghost use Rattle.ff_lines.specs.Posts.{laid};
 ghost use Rattle.ff_window.specs.Window.{first_position};
 
-use crate::{Device, Store};
+use crate::Device;
+use ff_flash::Flash;
 use ff_window::Window;
 
 fn lose(window: &mut Window)
@@ -18,7 +19,7 @@ fn lose(window: &mut Window)
     }
 }
 
-impl<S: Store> Device<S> {
+impl<F: Flash> Device<F> {
     // Loses every post that waits. The first position that was lost.
     fn lose_window(&mut self) -> Option<u32>
         ensures lost { result ≡ first_position self.old.window.posts }
@@ -35,10 +36,10 @@ impl<S: Store> Device<S> {
     #[tactic(auto, using(crate::proofs::Arriving::take_some, crate::proofs::Arriving::drop_some))]
     pub fn arrive(&mut self, count: u32) -> Option<u32>
         ensures lost { result ≡ first_position (drop count self.old.window.posts) }
-        ensures below { (page line : ℕ) → line_below (parts_of S.seen self.new) page line
-            ≡ laid page line (take count self.old.window.posts) (line_below (parts_of S.seen self.old) page line) }
+        ensures below { (page line : ℕ) → line_below (parts_of self.new) page line
+            ≡ laid page line (take count self.old.window.posts) (line_below (parts_of self.old) page line) }
         ensures posts { self.new.window.posts ≡ [] }
-        ensures resident { SameSet (is_resident (parts_of S.seen self.old)) (is_resident (parts_of S.seen self.new)) }
+        ensures resident { SameSet (is_resident (parts_of self.old)) (is_resident (parts_of self.new)) }
         ensures store { self.new.store ≡ self.old.store }
     {
         let some = count.min(self.window.len());

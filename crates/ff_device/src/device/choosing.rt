@@ -1,15 +1,21 @@
 // The way that gives way.
 ghost use Rattle.std.specs.Prelude.{◌≡◌, ◌<◌, ◌==◌, ◌+◌, ℕ, None, Some, IfNone, true, false, length, MatchOption, if◌then◌else◌};
 ghost use Rattle.ff_cache.specs.Cache.{first_of, is_full_set, way_at};
+<<<<<<< HEAD
 ghost use Rattle.ff_cache.specs.Slots.{is_empty, cache_slot_at};
 ghost use Rattle.ff_device.specs.DeviceFields.{parts_of};
+=======
+ghost use Rattle.ff_cache.specs.Slots.{is_empty, cache_slot_at};
+ghost use Rattle.ff_device.specs.Device.{parts_of};
+>>>>>>> e7683868755622e2d1da9dc1c3bc4a9cc8ae91c6
 ghost use Rattle.ff_device.specs.Steps.{chosen_way, may_go, may_go_at};
 ghost use Rattle.ff_device.specs.WorkRows.{HasUnpinned, IsRaised};
 ghost use Rattle.ff_rrip.specs.Ways.{is_allowed};
 
 use super::slots::choose_way;
-use crate::{Device, Store};
+use crate::Device;
 use ff_base::PageNo;
+use ff_flash::Flash;
 
 // The mask with a bit set for a way that may give way.
 #[tactic(auto, using(crate::proofs::Masks::allowed_with))]
@@ -22,7 +28,7 @@ fn with_way(mask: u32, way: u32, may: bool) -> u32
     if may { mask | 1 << way } else { mask }
 }
 
-impl<S: Store> Device<S> {
+impl<F: Flash> Device<F> {
     // Whether a slot may give way.
     fn may_go(&self, slot: u32) -> bool
         requires { slot < length self.now.cache.slots }
@@ -40,7 +46,7 @@ impl<S: Store> Device<S> {
     // Whether a way of the page's set may give way.
     fn may_go_way(&self, page: PageNo, way: u32) -> bool
         requires { way < self.now.cache.ways }
-        ensures { result ≡ may_go_at (parts_of S.seen self.now) page.0 way }
+        ensures { result ≡ may_go_at (parts_of self.now) page.0 way }
     {
         self.may_go(self.cache.first_slot(page) + way)
     }
@@ -48,7 +54,7 @@ impl<S: Store> Device<S> {
     // Which ways of the page's set may give way: way w is bit w.
     fn allowed(&self, page: PageNo) -> u32
         ensures { (way : ℕ) → way < self.now.cache.ways
-            → is_allowed result way ≡ may_go_at (parts_of S.seen self.now) page.0 way }
+            → is_allowed result way ≡ may_go_at (parts_of self.now) page.0 way }
     {
         let mut mask = 0;
         for way in 0..self.cache.ways() {
@@ -60,8 +66,8 @@ impl<S: Store> Device<S> {
     // The slot of the page's set that gives way, for which the values may be raised.
     pub(super) fn choose(&mut self, page: PageNo) -> Option<u32>
         ensures told { MatchOption result
-            (chosen_way (parts_of S.seen self.old) page.0 ≡ None)
-            (λ slot. IsRaised page.0 slot (parts_of S.seen self.old) (parts_of S.seen self.new)) }
+            (chosen_way (parts_of self.old) page.0 ≡ None)
+            (λ slot. IsRaised page.0 slot (parts_of self.old) (parts_of self.new)) }
         ensures kept { IfNone result (self.new.cache ≡ self.old.cache) }
         ensures same { self.new ≡ record self.old {
           cache = record self.old.cache { values = self.new.cache.values };
@@ -74,7 +80,7 @@ impl<S: Store> Device<S> {
 
     // Whether a way of the page's set isn't pinned.
     pub(super) fn has_unpinned(&self, page: PageNo) -> bool
-        ensures some { result ≡ true → HasUnpinned page.0 (parts_of S.seen self.now) }
+        ensures some { result ≡ true → HasUnpinned page.0 (parts_of self.now) }
         ensures none { result ≡ false → (way : ℕ) → way < self.now.cache.ways
             → (way_at self.now.cache page.0 way).pinned ≡ true }
     {

@@ -1,42 +1,58 @@
 // A turn of the collector.
-ghost use Rattle.std.specs.Prelude.{◌≡◌, ◌<◌, ◌^◌, None, true, false};
+ghost use Rattle.std.specs.Prelude.{◌≡◌, ◌↔◌, IsTrue, None, true, false};
 ghost use Rattle.std.specs.Option.{is_some};
-ghost use Rattle.ff_device.specs.DeviceFields.{lines_in, parts_of};
-ghost use Rattle.ff_device.specs.Store.{SameStore};
-ghost use Rattle.ff_device.specs.WorkRows.{CollectRow, IsCollectTurn, Powered};
-ghost use Rattle.ff_lines.specs.Works.{IsIdle, KeepsLines};
+ghost use Rattle.ff_flash.specs.FlashState.{HasOperationsLeft};
+ghost use Rattle.ff_lines.specs.Works.{KeepsLines};
+ghost use Rattle.ff_store.specs.Calls.{WantsCollect};
+ghost use Rattle.ff_device.specs.CollectTurn.{work_of, HasCollected, IsCollectTurn};
+ghost use Rattle.ff_device.specs.Device.{lines_in};
+ghost use Rattle.ff_device.specs.StoreSteps.{CallsOnce};
+ghost use Rattle.ff_device.specs.WorkRows.{stop_of_work};
 
-use crate::{Device, Store};
-use ff_flash::FlashStop;
+use crate::Device;
+use ff_flash::{Flash, FlashStop};
+use ff_gc::GcStep;
 use ff_lines::Work;
 
-impl<S: Store> Device<S> {
+fn answer(step: Result<GcStep, FlashStop>) -> Work
+    ensures { result ≡ work_of step }
+{
+    match step {
+        Ok(_) => Work::Stepped,
+        Err(FlashStop::Failed) => Work::Failed,
+        Err(FlashStop::Off) => Work::Off,
+    }
+}
+
+impl<F: Flash> Device<F> {
+    /// Whether a collection runs, or is due.
+    pub fn wants_collect(&self) -> bool
+        ensures { IsTrue result ↔ WantsCollect self.now.store }
+    {
+        self.store.wants_collect()
+    }
+
     // Makes one step of the collector.
     fn collect(&mut self) -> Work
-        requires idle { (S.seen self.old.store).pending ≡ None }
-        requires used { (S.seen self.old.store).used < 2 ^ 63 }
-        ensures row { CollectRow result (parts_of S.seen self.old) (parts_of S.seen self.new) }
-        ensures powers { Powered result (S.seen self.old.store) (S.seen self.new.store) }
-        ensures same { SameStore (S.seen self.old.store) (S.seen self.new.store) }
+        requires on { self.old.store.world.flash.on ≡ true }
+        requires idle { self.old.store.waits ≡ None }
+        requires life { HasOperationsLeft self.old.store.world.flash }
+        ensures row { HasCollected self.old result self.new }
+        ensures calls { CallsOnce self.old.store (stop_of_work result) self.new.store }
     {
-        match self.store.collect_step() {
-            Ok(()) => Work::Stepped,
-            Err(FlashStop::Failed) => Work::Failed,
-            Err(FlashStop::Off) => Work::Off,
-        }
+        answer(self.store.collect_step())
     }
 
     // The turn with the power on.
     fn collect_turn(&mut self) -> Work
-        requires used { (S.seen self.old.store).used < 2 ^ 63 }
-        requires on { (S.seen self.old.store).on ≡ true }
-        ensures turn { IsCollectTurn (parts_of S.seen self.old) result (parts_of S.seen self.new) }
-        ensures powers { Powered result (S.seen self.old.store) (S.seen self.new.store) }
-        ensures same { SameStore (S.seen self.old.store) (S.seen self.new.store) }
+        requires on { self.old.store.world.flash.on ≡ true }
+        requires life { HasOperationsLeft self.old.store.world.flash }
+        ensures turn { IsCollectTurn self.old result self.new }
+        ensures calls { CallsOnce self.old.store (stop_of_work result) self.new.store }
     {
         if self.is_pending() {
             self.seal()
-        } else if self.store.wants_collect() {
+        } else if self.wants_collect() {
             self.collect()
         } else {
             Work::Ready
@@ -46,14 +62,13 @@ impl<S: Store> Device<S> {
     /// One step of a flush that waits, or of a collection that runs or is due. `Ready` where there is neither, and `Off`
     /// with the power off.
     pub fn collect_work(&mut self) -> Work
-        requires { (S.seen self.old.store).used < 2 ^ 63 }
-        ensures turn { IsCollectTurn (parts_of S.seen self.old) result (parts_of S.seen self.new) }
-        ensures kept { KeepsLines (lines_in S.seen self.old) (lines_in S.seen self.new) }
-        ensures powers { (S.seen self.old.store).on ≡ true
-            → Powered result (S.seen self.old.store) (S.seen self.new.store) }
+        requires { HasOperationsLeft self.old.store.world.flash }
+        ensures turn { IsCollectTurn self.old result self.new }
+        ensures kept { KeepsLines (lines_in self.old) (lines_in self.new) }
+        ensures calls { CallsOnce self.old.store (stop_of_work result) self.new.store }
     {
         self.parts_known();
-        if self.store.is_on() {
+        if self.is_on() {
             self.collect_turn()
         } else {
             Work::Off

@@ -1,17 +1,18 @@
 // Posts that are laid over their pages' slots.
 ghost use Rattle.std.specs.Prelude.{◌≡◌, ◌≤◌, ◌<◌, min, length, nat_lt};
-ghost use Rattle.ff_device.specs.DeviceFields.{lines_in};
+ghost use Rattle.ff_device.specs.Device.{lines_in};
 ghost use Rattle.ff_device.specs.Draining.{DrainsFirst, SameFrames};
 ghost use Rattle.ff_lines.specs.DeviceState.{IsDrained};
 
 use super::slots::lay;
-use crate::{Device, Store};
+use crate::Device;
+use ff_flash::Flash;
 
-impl<S: Store> Device<S> {
+impl<F: Flash> Device<F> {
     /// Drains the oldest post. Whether one waited.
     pub fn drain_one(&mut self) -> bool
         ensures found { result ≡ nat_lt 0 (length self.old.window.posts) }
-        ensures drained { DrainsFirst 1 (lines_in S.seen self.old) (lines_in S.seen self.new) }
+        ensures drained { DrainsFirst 1 (lines_in self.old) (lines_in self.new) }
         ensures store { self.new.store ≡ self.old.store }
         ensures frames { SameFrames self.old.cache self.new.cache }
         ensures window { self.new.window.room ≡ self.old.window.room }
@@ -29,7 +30,7 @@ impl<S: Store> Device<S> {
     // Drains so many of the oldest posts.
     #[tactic(auto, using(crate::proofs::Drained::drains_more, crate::proofs::Drained::drains_none, crate::proofs::Drained::frames_more, crate::proofs::Drained::frames_same))]
     pub(super) fn drain_first(&mut self, count: u32)
-        ensures drained { DrainsFirst count (lines_in S.seen self.old) (lines_in S.seen self.new) }
+        ensures drained { DrainsFirst count (lines_in self.old) (lines_in self.new) }
         ensures store { self.new.store ≡ self.old.store }
         ensures frames { SameFrames self.old.cache self.new.cache }
         ensures window { self.new.window.room ≡ self.old.window.room }
@@ -42,7 +43,7 @@ impl<S: Store> Device<S> {
     // Drains every post.
     #[tactic(auto, using(crate::proofs::Drained::drains_all))]
     pub(super) fn drain_window(&mut self)
-        ensures drained { IsDrained (lines_in S.seen self.old) (lines_in S.seen self.new) }
+        ensures drained { IsDrained (lines_in self.old) (lines_in self.new) }
         ensures store { self.new.store ≡ self.old.store }
         ensures frames { SameFrames self.old.cache self.new.cache }
         ensures window { self.new.window.room ≡ self.old.window.room }

@@ -1,35 +1,49 @@
 // A page that is fetched into a slot.
 ghost use Rattle.std.specs.Prelude.{◌≡◌, ◌<◌, ◌^◌, None, true, false, length};
 ghost use Rattle.ff_cache.specs.Cache.{IsInSet};
+<<<<<<< HEAD
 ghost use Rattle.ff_cache.specs.Slots.{held, cache_slot_at};
 ghost use Rattle.ff_device.specs.DeviceFields.{parts_of};
+=======
+ghost use Rattle.ff_cache.specs.Slots.{held, cache_slot_at};
+ghost use Rattle.ff_device.specs.StoreState.{seen_of};
+ghost use Rattle.ff_device.specs.Device.{parts_of};
+>>>>>>> e7683868755622e2d1da9dc1c3bc4a9cc8ae91c6
 ghost use Rattle.ff_device.specs.Steps.{may_go};
-ghost use Rattle.ff_device.specs.Store.{SameStore};
-ghost use Rattle.ff_device.specs.WorkRows.{FetchRow, Powered};
+ghost use Rattle.ff_device.specs.StoreSteps.{CallsOnce};
+ghost use Rattle.ff_device.specs.WorkRows.{FetchRow, stop_of_work};
 ghost use Rattle.ff_lines.specs.Works.{IsIdle};
 
-use crate::{Device, Store};
+use crate::Device;
+use crate::store_steps::fetch;
 use ff_base::PageNo;
-use ff_flash::FlashStop;
+use ff_flash::{Flash, FlashStop};
 use ff_lines::Work;
 
-impl<S: Store> Device<S> {
+impl<F: Flash> Device<F> {
     pub(super) fn fetch_into(&mut self, page: PageNo, slot: u32) -> Work
-        requires page { page.0 < length (S.seen self.old.store).pages }
-        requires used { (S.seen self.old.store).used < 2 ^ 63 }
-        requires idle { (S.seen self.old.store).pending ≡ None }
+        requires page { page.0 < length (seen_of self.old.store).pages }
+        requires used { (seen_of self.old.store).used < 2 ^ 63 }
+        requires idle { (seen_of self.old.store).pending ≡ None }
         requires absent { held self.old.cache.slots page.0 ≡ None }
         requires place { IsInSet self.old.cache page.0 slot }
+<<<<<<< HEAD
         requires clean { (cache_slot_at self.old.cache.slots slot).dirty ≡ false }
         requires goes { may_go self.old.window.posts (cache_slot_at self.old.cache.slots slot)
             ≡ true }
         ensures row { FetchRow page.0 slot result (parts_of S.seen self.old) (parts_of S.seen self.new) }
         ensures powers { Powered result (S.seen self.old.store) (S.seen self.new.store) }
         ensures same { SameStore (S.seen self.old.store) (S.seen self.new.store) }
+=======
+        requires clean { (cache_slot_at self.old.cache.slots slot).dirty ≡ false }
+        requires goes { may_go self.old.window.posts (cache_slot_at self.old.cache.slots slot) ≡ true }
+        ensures row { FetchRow page.0 slot result (parts_of self.old) (parts_of self.new) }
+        ensures calls { CallsOnce self.old.store (stop_of_work result) self.new.store }
+>>>>>>> e7683868755622e2d1da9dc1c3bc4a9cc8ae91c6
         ensures busy { IsIdle result → ⊥ }
     {
         self.cache.known();
-        match self.store.fetch(page, &mut self.page) {
+        match fetch(&mut self.store, page, &mut self.page) {
             Ok(()) => {
                 self.cache.put(slot, page, &self.page);
                 Work::Stepped

@@ -1,30 +1,39 @@
 // A dirty page that is flushed, and a flush that is sealed.
 ghost use Rattle.std.specs.Prelude.{◌≡◌, ◌<◌, ◌^◌, None, Some, IsSome, true, length};
+<<<<<<< HEAD
 ghost use Rattle.ff_cache.specs.Slots.{cache_slot_at};
 ghost use Rattle.ff_device.specs.DeviceFields.{parts_of};
 ghost use Rattle.ff_device.specs.Store.{SameStore};
 ghost use Rattle.ff_device.specs.WorkRows.{FlushRow, Powered, SealRow};
+=======
+ghost use Rattle.ff_cache.specs.Slots.{cache_slot_at};
+ghost use Rattle.ff_device.specs.StoreState.{seen_of};
+ghost use Rattle.ff_device.specs.Device.{parts_of};
+ghost use Rattle.ff_device.specs.StoreSteps.{CallsOnce};
+ghost use Rattle.ff_device.specs.WorkRows.{FlushRow, stop_of_work, SealRow};
+>>>>>>> e7683868755622e2d1da9dc1c3bc4a9cc8ae91c6
 ghost use Rattle.ff_lines.specs.Works.{IsIdle};
 
 use super::slots::{begin_flush, end_flush};
-use crate::{Device, FlushStep, Store};
+use crate::Device;
+use crate::store_steps::{flush_step, seal_step, store_known};
 use ff_base::PageNo;
-use ff_flash::FlashStop;
+use ff_flash::{Flash, FlashStop};
 use ff_lines::Work;
+use ff_store::FlushStep;
 
-impl<S: Store> Device<S> {
+impl<F: Flash> Device<F> {
     // Seals the flush that waits.
     pub(super) fn seal(&mut self) -> Work
-        requires pending { IsSome (S.seen self.old.store).pending }
-        requires used { (S.seen self.old.store).used < 2 ^ 63 }
-        ensures row { SealRow result (parts_of S.seen self.old) (parts_of S.seen self.new) }
-        ensures powers { Powered result (S.seen self.old.store) (S.seen self.new.store) }
-        ensures same { SameStore (S.seen self.old.store) (S.seen self.new.store) }
+        requires pending { IsSome (seen_of self.old.store).pending }
+        requires used { (seen_of self.old.store).used < 2 ^ 63 }
+        ensures row { SealRow result (parts_of self.old) (parts_of self.new) }
+        ensures calls { CallsOnce self.old.store (stop_of_work result) self.new.store }
         ensures busy { IsIdle result → ⊥ }
     {
         self.cache.known();
-        self.store.known();
-        match self.store.seal_step() {
+        store_known(&self.store);
+        match seal_step(&mut self.store) {
             Ok(FlushStep::Sealed(page)) => {
                 end_flush(&mut self.cache, page);
                 Work::Stepped
@@ -38,19 +47,26 @@ impl<S: Store> Device<S> {
 
     // Makes a step of the flush of a dirty slot, which holds the page.
     fn flush_page(&mut self, slot: u32, page: PageNo) -> Work
-        requires idle { (S.seen self.old.store).pending ≡ None }
-        requires used { (S.seen self.old.store).used < 2 ^ 63 }
+        requires idle { (seen_of self.old.store).pending ≡ None }
+        requires used { (seen_of self.old.store).used < 2 ^ 63 }
         requires slot { slot < length self.old.cache.slots }
+<<<<<<< HEAD
         requires held { (cache_slot_at self.old.cache.slots slot).page ≡ Some page }
         requires dirty { (cache_slot_at self.old.cache.slots slot).dirty ≡ true }
         ensures row { FlushRow slot result (parts_of S.seen self.old) (parts_of S.seen self.new) }
         ensures powers { Powered result (S.seen self.old.store) (S.seen self.new.store) }
         ensures same { SameStore (S.seen self.old.store) (S.seen self.new.store) }
+=======
+        requires held { (cache_slot_at self.old.cache.slots slot).page ≡ Some page }
+        requires dirty { (cache_slot_at self.old.cache.slots slot).dirty ≡ true }
+        ensures row { FlushRow slot result (parts_of self.old) (parts_of self.new) }
+        ensures calls { CallsOnce self.old.store (stop_of_work result) self.new.store }
+>>>>>>> e7683868755622e2d1da9dc1c3bc4a9cc8ae91c6
         ensures busy { IsIdle result → ⊥ }
     {
         self.cache.known();
         self.cache.copy_out(slot, &mut self.page);
-        match self.store.flush_step(page, &self.page) {
+        match flush_step(&mut self.store, page, &self.page) {
             Ok(FlushStep::Programmed) => {
                 begin_flush(&mut self.cache, page);
                 Work::Stepped
@@ -64,13 +80,19 @@ impl<S: Store> Device<S> {
 
     // Makes a step of the flush of a dirty slot.
     pub(super) fn flush(&mut self, slot: u32) -> Work
-        requires idle { (S.seen self.old.store).pending ≡ None }
-        requires used { (S.seen self.old.store).used < 2 ^ 63 }
+        requires idle { (seen_of self.old.store).pending ≡ None }
+        requires used { (seen_of self.old.store).used < 2 ^ 63 }
         requires slot { slot < length self.old.cache.slots }
+<<<<<<< HEAD
         requires dirty { (cache_slot_at self.old.cache.slots slot).dirty ≡ true }
         ensures row { FlushRow slot result (parts_of S.seen self.old) (parts_of S.seen self.new) }
         ensures powers { Powered result (S.seen self.old.store) (S.seen self.new.store) }
         ensures same { SameStore (S.seen self.old.store) (S.seen self.new.store) }
+=======
+        requires dirty { (cache_slot_at self.old.cache.slots slot).dirty ≡ true }
+        ensures row { FlushRow slot result (parts_of self.old) (parts_of self.new) }
+        ensures calls { CallsOnce self.old.store (stop_of_work result) self.new.store }
+>>>>>>> e7683868755622e2d1da9dc1c3bc4a9cc8ae91c6
         ensures busy { IsIdle result → ⊥ }
     {
         self.cache.known();

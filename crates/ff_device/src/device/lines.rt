@@ -1,40 +1,45 @@
 // The device as one of lines.
 ghost use Rattle.std.specs.Prelude.{◌≡◌, ◌≤◌, ◌<◌, ◌+◌, ◌++◌, ◌∷◌, ◌==◌, ◌^◌, ℕ, [], true, false, length, drop, if◌then◌else◌};
 ghost use Rattle.std.specs.Option.{is_some};
-ghost use Rattle.ff_device.specs.DeviceFields.{lines_in, parts_of};
+ghost use Rattle.ff_device.specs.StoreState.{seen_of};
+ghost use Rattle.ff_device.specs.Device.{lines_in, parts_of};
 ghost use Rattle.ff_device.specs.Changes.{post_of};
 ghost use Rattle.ff_device.specs.Draining.{HitIf};
 ghost use Rattle.ff_lines.specs.Posts.{IsPost};
 ghost use Rattle.ff_lines.specs.DeviceState.{HasRoom, IsDevice, IsDrained, IsPinned, IsPosted, line_at};
-ghost use Rattle.ff_device.specs.WorkRows.{IsStep};
+ghost use Rattle.ff_device.specs.WorkRows.{IsWorkStep};
 ghost use Rattle.ff_lines.specs.Works.{IsIdle, KeepsLines, Works};
 
 use super::slots::set_pin;
-use crate::{Device, Store};
+use crate::Device;
+use crate::store_steps::store_known;
 use ff_base::{LINE_BYTES, PageNo};
+use ff_flash::Flash;
 use ff_lines::{LineDevice, Post, Work};
 use ff_model::Piece;
+use ff_store::PageStore;
 
-impl<S: Store> Device<S> {
+impl<F: Flash> Device<F> {
     // What every device of lines keeps.
     fn lines_known(&self)
-        ensures { IsDevice (lines_in S.seen self.now) }
+        ensures { IsDevice (lines_in self.now) }
     {
-        self.store.known();
+        store_known(&self.store);
+        let _ = self.window.len();
     }
 
     fn is_resident(&self, page: PageNo) -> bool
-        ensures { result ≡ (lines_in S.seen self.now).resident page.0 }
+        ensures { result ≡ (lines_in self.now).resident page.0 }
     {
         self.cache.find(page).is_some()
     }
 
     #[tactic(auto, using(crate::proofs::Touching::drained_values, crate::proofs::Touching::hit_frames))]
     fn read(&mut self, page: PageNo, line: u8, hit: bool) -> [u8; LINE_BYTES]
-        requires resident { (lines_in S.seen self.old).resident page.0 ≡ true }
+        requires resident { (lines_in self.old).resident page.0 ≡ true }
         requires line { line < 64 }
-        ensures bytes { result ≡ line_at (lines_in S.seen self.old) page.0 line }
-        ensures drained { IsDrained (lines_in S.seen self.old) (lines_in S.seen self.new) }
+        ensures bytes { result ≡ line_at (lines_in self.old) page.0 line }
+        ensures drained { IsDrained (lines_in self.old) (lines_in self.new) }
         ensures store { self.new.store ≡ self.old.store }
         ensures hit { HitIf hit page.0 self.old.cache self.new.cache.values }
     {
@@ -43,10 +48,10 @@ impl<S: Store> Device<S> {
     }
 
     fn put(&mut self, post: Post)
-        requires resident { (lines_in S.seen self.old).resident post.page.0 ≡ true }
+        requires resident { (lines_in self.old).resident post.page.0 ≡ true }
         requires post { IsPost post }
-        requires room { HasRoom (lines_in S.seen self.old) post.page.0 }
-        ensures posted { IsPosted post (lines_in S.seen self.old) (lines_in S.seen self.new) }
+        requires room { HasRoom (lines_in self.old) post.page.0 }
+        ensures posted { IsPosted post (lines_in self.old) (lines_in self.new) }
         ensures full { self.new.window.posts
             ≡ drop (if length self.old.window.posts == self.old.window.room then 1 else 0) self.old.window.posts ++ post ∷ [] }
         ensures store { self.new.store ≡ self.old.store }
@@ -58,8 +63,8 @@ impl<S: Store> Device<S> {
     }
 
     fn change_pin(&mut self, page: PageNo, on: bool)
-        requires { (lines_in S.seen self.old).resident page.0 ≡ true }
-        ensures pinned { IsPinned page.0 on (lines_in S.seen self.old) (lines_in S.seen self.new) }
+        requires { (lines_in self.old).resident page.0 ≡ true }
+        ensures pinned { IsPinned page.0 on (lines_in self.old) (lines_in self.new) }
         ensures store { self.new.store ≡ self.old.store }
         ensures values { self.new.cache.values ≡ self.old.cache.values }
     {
@@ -68,14 +73,14 @@ impl<S: Store> Device<S> {
     }
 }
 
-impl<S: Store> LineDevice for Device<S> {
+impl<F: Flash> LineDevice for Device<F> {
     ghost use Rattle.std.specs.Prelude.{◌≡◌, ◌≤◌, ◌<◌, ◌+◌, ◌++◌, ◌∷◌, ◌==◌, ◌^◌, ℕ, [], true, false, length, drop, if◌then◌else◌};
     ghost use Rattle.std.specs.Option.{is_some};
-    ghost use Rattle.ff_device.specs.DeviceFields.{lines_in, parts_of};
+    ghost use Rattle.ff_device.specs.Device.{lines_in, parts_of};
 
-    type Own = S;
+    type Own = PageStore<F>;
 
-    ghost state = { λ d. lines_in S.seen d };
+    ghost state = { lines_in };
 
     ghost own = { λ d. d.store };
 
@@ -85,10 +90,10 @@ impl<S: Store> LineDevice for Device<S> {
     }
 
     fn read_line(&mut self, page: PageNo, line: u8, hit: bool) -> [u8; LINE_BYTES]
-        requires resident { (lines_in S.seen self.old).resident page.0 ≡ true }
+        requires resident { (lines_in self.old).resident page.0 ≡ true }
         requires line { line < 64 }
-        ensures bytes { result ≡ line_at (lines_in S.seen self.old) page.0 line }
-        ensures drained { IsDrained (lines_in S.seen self.old) (lines_in S.seen self.new) }
+        ensures bytes { result ≡ line_at (lines_in self.old) page.0 line }
+        ensures drained { IsDrained (lines_in self.old) (lines_in self.new) }
         ensures own { self.new.store ≡ self.old.store }
         ensures hit { HitIf hit page.0 self.old.cache self.new.cache.values }
     {
@@ -96,13 +101,13 @@ impl<S: Store> LineDevice for Device<S> {
     }
 
     fn post(&mut self, page: PageNo, line: u8, from: u8, piece: &Piece, position: Option<u32>)
-        requires resident { (lines_in S.seen self.old).resident page.0 ≡ true }
+        requires resident { (lines_in self.old).resident page.0 ≡ true }
         requires line { line < 64 }
         requires fits { from + length piece.now ≤ 64 }
-        requires room { HasRoom (lines_in S.seen self.old) page.0 }
+        requires room { HasRoom (lines_in self.old) page.0 }
         ensures posted { IsPosted
             (record { page = page; line = line; from = from; bytes = piece.now; position = position })
-            (lines_in S.seen self.old) (lines_in S.seen self.new) }
+            (lines_in self.old) (lines_in self.new) }
         ensures own { self.new.store ≡ self.old.store }
         ensures hit { HitIf (is_some position) page.0 self.old.cache self.new.cache.values }
         ensures full { self.new.window.posts
@@ -119,7 +124,7 @@ impl<S: Store> LineDevice for Device<S> {
     }
 
     fn drain_all(&mut self)
-        ensures drained { IsDrained (lines_in S.seen self.old) (lines_in S.seen self.new) }
+        ensures drained { IsDrained (lines_in self.old) (lines_in self.new) }
         ensures own { self.new.store ≡ self.old.store }
         ensures values { self.new.cache.values ≡ self.old.cache.values }
     {
@@ -127,8 +132,8 @@ impl<S: Store> LineDevice for Device<S> {
     }
 
     fn pin(&mut self, page: PageNo, on: bool)
-        requires { (lines_in S.seen self.old).resident page.0 ≡ true }
-        ensures pinned { IsPinned page.0 on (lines_in S.seen self.old) (lines_in S.seen self.new) }
+        requires { (lines_in self.old).resident page.0 ≡ true }
+        ensures pinned { IsPinned page.0 on (lines_in self.old) (lines_in self.new) }
         ensures own { self.new.store ≡ self.old.store }
         ensures values { self.new.cache.values ≡ self.old.cache.values }
     {
@@ -137,17 +142,17 @@ impl<S: Store> LineDevice for Device<S> {
 
     #[tactic(auto, using(crate::proofs::Keeping::still_keeps))]
     fn work(&mut self, page: PageNo) -> Work
-        requires page { page.0 < length (S.seen self.old.store).pages }
-        requires used { (S.seen self.old.store).used < 2 ^ 63 }
-        ensures answer { Works page.0 result (lines_in S.seen self.old) (lines_in S.seen self.new) }
-        ensures kept { KeepsLines (lines_in S.seen self.old) (lines_in S.seen self.new) }
+        requires page { page.0 < length (seen_of self.old.store).pages }
+        requires used { (seen_of self.old.store).used < 2 ^ 63 }
+        ensures answer { Works page.0 result (lines_in self.old) (lines_in self.new) }
+        ensures kept { KeepsLines (lines_in self.old) (lines_in self.new) }
         ensures idle { IsIdle result → self.new ≡ self.old }
-        ensures unpowered { (S.seen self.old.store).on ≡ false → self.new ≡ self.old }
-        ensures row { (S.seen self.old.store).on ≡ true
-            → (lines_in S.seen self.old).resident page.0 ≡ false
-            → IsStep page.0 (parts_of S.seen self.old) result (parts_of S.seen self.new) }
+        ensures unpowered { (seen_of self.old.store).on ≡ false → self.new ≡ self.old }
+        ensures row { (seen_of self.old.store).on ≡ true
+            → (lines_in self.old).resident page.0 ≡ false
+            → IsWorkStep page.0 (parts_of self.old) result (parts_of self.new) }
     {
-        if !self.store.is_on() {
+        if !self.is_on() {
             Work::Off
         } else if self.is_resident(page) {
             Work::Ready

@@ -1,23 +1,24 @@
 // Reads of cached lines, posts, and the hits that both may be.
 ghost use Rattle.std.specs.Prelude.{◌≡◌, ◌≤◌, ◌<◌, ◌++◌, ◌∷◌, ◌==◌, [], true, length, if◌then◌else◌};
-ghost use Rattle.ff_device.specs.DeviceFields.{lines_in, parts_of};
+ghost use Rattle.ff_device.specs.Device.{lines_in, parts_of};
 ghost use Rattle.ff_device.specs.Draining.{DrainsFirst, HitIf, SameFrames};
 ghost use Rattle.ff_device.specs.Parts.{is_resident, line_below};
 ghost use Rattle.ff_lines.specs.DeviceState.{HasRoom, IsDrained};
 ghost use Rattle.ff_lines.specs.Posts.{IsPost};
 
 use super::slots::use_again;
-use crate::{Device, Store};
+use crate::Device;
 use ff_base::{LINE_BYTES, PageNo};
+use ff_flash::Flash;
 use ff_lines::Post;
 
-impl<S: Store> Device<S> {
+impl<F: Flash> Device<F> {
     // The cached line of a page.
     #[tactic(auto, using(crate::proofs::Touching::hit_told, crate::proofs::Touching::cached_line))]
     pub(super) fn read_cached(&mut self, page: PageNo, line: u8, hit: bool) -> [u8; LINE_BYTES]
-        requires resident { is_resident (parts_of S.seen self.old) page.0 ≡ true }
+        requires resident { is_resident (parts_of self.old) page.0 ≡ true }
         requires line { line < 64 }
-        ensures bytes { result ≡ line_below (parts_of S.seen self.old) page.0 line }
+        ensures bytes { result ≡ line_below (parts_of self.old) page.0 line }
         ensures hit { HitIf hit page.0 self.old.cache self.new.cache.values }
         ensures same { self.new ≡ record self.old {
           cache = record self.old.cache { values = self.new.cache.values };
@@ -35,7 +36,7 @@ impl<S: Store> Device<S> {
     // Where it is a hit, the page was used again.
     #[tactic(auto, using(crate::proofs::Touching::hit_told))]
     pub(super) fn touch(&mut self, page: PageNo, hit: bool)
-        requires resident { is_resident (parts_of S.seen self.old) page.0 ≡ true }
+        requires resident { is_resident (parts_of self.old) page.0 ≡ true }
         ensures hit { HitIf hit page.0 self.old.cache self.new.cache.values }
         ensures same { self.new ≡ record self.old {
           cache = record self.old.cache { values = self.new.cache.values };
@@ -51,7 +52,7 @@ impl<S: Store> Device<S> {
     #[tactic(auto, using(crate::proofs::Drained::drains_none, crate::proofs::Drained::frames_same))]
     pub(super) fn make_room(&mut self)
         ensures drained { DrainsFirst (if length self.old.window.posts == self.old.window.room then 1 else 0)
-            (lines_in S.seen self.old) (lines_in S.seen self.new) }
+            (lines_in self.old) (lines_in self.new) }
         ensures room { length self.new.window.posts < self.new.window.room }
         ensures store { self.new.store ≡ self.old.store }
         ensures frames { SameFrames self.old.cache self.new.cache }
@@ -64,10 +65,10 @@ impl<S: Store> Device<S> {
     // Puts a post last.
     #[tactic(auto, using(crate::proofs::Lines::posted_sound))]
     pub(super) fn put_last(&mut self, post: Post)
-        requires resident { is_resident (parts_of S.seen self.old) post.page.0 ≡ true }
+        requires resident { is_resident (parts_of self.old) post.page.0 ≡ true }
         requires post { IsPost post }
         requires free { length self.old.window.posts < self.old.window.room }
-        requires room { HasRoom (lines_in S.seen self.old) post.page.0 }
+        requires room { HasRoom (lines_in self.old) post.page.0 }
         ensures { self.new ≡ record self.old {
           window = record { posts = self.old.window.posts ++ post ∷ []; room = self.old.window.room };
         } }

@@ -1,12 +1,13 @@
 use Rattle.std.proofs.Common.{refl}
 use Rattle.ff_device.specs.Parts.{Parts}
+use Rattle.ff_device.specs.StoreState.{seen_of}
 use Rattle.ff_device.proofs.Laying.{laying_drains, laying_sound}
 use Rattle.ff_device.proofs.device.Device.drain_one.Goals as goal
 
 pub invariant_of-self : goal.invariant_of-self
 invariant_of-self g c =
-    let old : Parts = record { store = g.S.Store.seen c.self.inside.store; cache = c.self.inside.cache; window = c.self.inside.window } in
-    let new : Parts = record { store = g.S.Store.seen c.self.inside.store; cache = c.lay.new.cache; window = c.pop.new.self } in
+    let old : Parts = record { store = seen_of c.self.inside.store; cache = c.self.inside.cache; window = c.self.inside.window } in
+    let new : Parts = record { store = seen_of c.self.inside.store; cache = c.lay.new.cache; window = c.pop.new.self } in
     laying_sound c.in-Some.post old new (record {
       sound = c.self.invariant;
       cache = c.known.ensures;
@@ -18,8 +19,8 @@ invariant_of-self g c =
 
 pub returns-in-Some-clause-drained : goal.returns-in-Some-clause-drained
 returns-in-Some-clause-drained g c =
-    let old : Parts = record { store = g.S.Store.seen c.self.inside.store; cache = c.self.inside.cache; window = c.self.inside.window } in
-    let new : Parts = record { store = g.S.Store.seen c.self.inside.store; cache = c.lay.new.cache; window = c.pop.new.self } in
+    let old : Parts = record { store = seen_of c.self.inside.store; cache = c.self.inside.cache; window = c.self.inside.window } in
+    let new : Parts = record { store = seen_of c.self.inside.store; cache = c.lay.new.cache; window = c.pop.new.self } in
     rw (← c.self.view_is) (laying_drains c.in-Some.post old new (record {
       sound = c.self.invariant;
       cache = c.known.ensures;

@@ -1,13 +1,15 @@
 use Rattle.std.proofs.Common.{inr, refl, sym}
 use Rattle.ff_device.specs.Parts.{Parts}
+use Rattle.ff_device.specs.StoreState.{seen_of}
+use Rattle.ff_device.proofs.StoreCalls.{limits_of}
 use Rattle.ff_device.proofs.Fetches.{fetching_sound}
 use Rattle.ff_device.proofs.Stopping.{stopped_sound}
 use Rattle.ff_device.proofs.device.Device.fetch_into.Goals as goal
 
 pub invariant_of-self : goal.invariant_of-self
 invariant_of-self g c =
-    let old : Parts = record { store = g.S.Store.seen c.self.inside.store; cache = c.self.inside.cache; window = c.self.inside.window } in
-    let new : Parts = record { store = g.S.Store.seen c.fetch.new.self; cache = c.put.new.self; window = c.self.inside.window } in
+    let old : Parts = record { store = seen_of c.self.inside.store; cache = c.self.inside.cache; window = c.self.inside.window } in
+    let new : Parts = record { store = seen_of c.fetch.new.store; cache = c.put.new.self; window = c.self.inside.window } in
     let absent = rw (← c.self.view_is) at c.requires.absent in
     let place = rw (← c.self.view_is) at c.requires.place in
     let clean = rw (← c.self.view_is) at c.requires.clean in
@@ -24,17 +26,17 @@ invariant_of-self g c =
       goes = goes;
       idle = idle;
       fetched = record { cache = rw (sym c.in-Ok.ensures.bytes) c.put.ensures; window = refl; pages = c.in-Ok.ensures.pages; pending = c.in-Ok.ensures.pending };
-      capacity = c.in-Ok.ensures.same.capacity;
+      capacity = (limits_of _ _ _ c.in-Ok.ensures.calls).capacity;
     })
 
 pub invariant_of-self-in-Err-Failed : goal.invariant_of-self-in-Err-Failed
 invariant_of-self-in-Err-Failed g c =
-    let old : Parts = record { store = g.S.Store.seen c.self.inside.store; cache = c.self.inside.cache; window = c.self.inside.window } in
-    stopped_sound old (g.S.Store.seen c.fetch.new.self) c.self.invariant c.in-Err-Failed.ensures.pages c.in-Err-Failed.ensures.same.capacity
+    let old : Parts = record { store = seen_of c.self.inside.store; cache = c.self.inside.cache; window = c.self.inside.window } in
+    stopped_sound old (seen_of c.fetch.new.store) c.self.invariant c.in-Err-Failed.ensures.pages (limits_of _ _ _ c.in-Err-Failed.ensures.calls).capacity
     (inr c.in-Err-Failed.ensures.pending)
 
 pub invariant_of-self-in-Err-Off : goal.invariant_of-self-in-Err-Off
 invariant_of-self-in-Err-Off g c =
-    let old : Parts = record { store = g.S.Store.seen c.self.inside.store; cache = c.self.inside.cache; window = c.self.inside.window } in
-    stopped_sound old (g.S.Store.seen c.fetch.new.self) c.self.invariant c.in-Err-Off.ensures.pages c.in-Err-Off.ensures.same.capacity
+    let old : Parts = record { store = seen_of c.self.inside.store; cache = c.self.inside.cache; window = c.self.inside.window } in
+    stopped_sound old (seen_of c.fetch.new.store) c.self.invariant c.in-Err-Off.ensures.pages (limits_of _ _ _ c.in-Err-Off.ensures.calls).capacity
     (inr c.in-Err-Off.ensures.pending)

@@ -1,22 +1,23 @@
--- How a device's fields show, and the device as one of lines.
+-- What a contract sees of a device: its parts, and the device as one of lines.
 use Rattle.std.specs.Prelude.{length}
 use Rattle.ff_cache.specs.Cache.{CacheView}
 use Rattle.ff_lines.specs.DeviceState.{DeviceState}
+use Rattle.ff_store.specs.PageStore.{PageStoreView}
 use Rattle.ff_window.specs.Window.{WindowView}
 use Rattle.ff_device.specs.Parts.{is_pinned, is_resident, is_written, line_below, Parts}
 use Rattle.ff_device.specs.Steps.{most_steps, steps_to}
-use Rattle.ff_device.specs.Store.{StoreView}
+use Rattle.ff_device.specs.StoreState.{seen_of}
 
 -- the store, the cache and the window
-pub record DeviceView (S : Type 0) : Type 0 where
-  pub store : S
+pub record DeviceView : Type 0 where
+  pub store : PageStoreView
   pub cache : CacheView
   pub window : WindowView
 
 -- the parts, with the store as it is seen
-abbrev pub parts_of : {S : Type 0} → (S → StoreView) → DeviceView S → Parts
-parts_of seen device =
-    record { store = seen device.store; cache = device.cache; window = device.window }
+abbrev pub parts_of : DeviceView → Parts
+parts_of device =
+    record { store = seen_of device.store; cache = device.cache; window = device.window }
 
 abbrev pub lines_of : Parts → DeviceState
 lines_of parts = record {
@@ -32,8 +33,9 @@ lines_of parts = record {
   faults = parts.store.faults;
   steps = steps_to parts;
   most_steps = most_steps parts.store;
+  most_posts = parts.window.room;
 }
 
 -- a device as one of lines
-abbrev pub lines_in : {S : Type 0} → (S → StoreView) → DeviceView S → DeviceState
-lines_in seen device = lines_of (parts_of seen device)
+abbrev pub lines_in : DeviceView → DeviceState
+lines_in device = lines_of (parts_of device)
