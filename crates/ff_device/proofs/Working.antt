@@ -334,15 +334,9 @@ step_promised page result old new w (flushes idle full slot mid raised dirty row
 -- the first row: a flush waits, a way is empty, none may give way, or one was chosen
 pub raised_step : (page slot : ℕ) (result : Work) (old mid new : Parts) → old.store.pending ≡ None → is_full_set old.cache page ≡ true
     → IsRaised page slot old mid
-<<<<<<< HEAD
-    → ((cache_slot_at mid.cache.slots slot).dirty ≡ true → FlushRow slot result mid new)
-    → ((cache_slot_at mid.cache.slots slot).dirty ≡ false → FetchRow page slot result mid new)
-    → IsStep page old result new
-=======
     → ((cache_slot_at mid.cache.slots slot).dirty ≡ true → FlushRow slot result mid new)
     → ((cache_slot_at mid.cache.slots slot).dirty ≡ false → FetchRow page slot result mid new)
     → IsWorkStep page old result new
->>>>>>> e7683868755622e2d1da9dc1c3bc4a9cc8ae91c6
 raised_step page slot result old mid new idle full raised dirty clean =
     let same : cache_slot_at mid.cache.slots slot ≡ cache_slot_at old.cache.slots slot = ap (λ m. cache_slot_at m.cache.slots slot) raised.is in
     elim (cases_Bool (cache_slot_at old.cache.slots slot).dirty) [

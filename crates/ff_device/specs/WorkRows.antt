@@ -3,13 +3,9 @@ use Rattle.std.specs.Prelude.{ℕ, ◌<◌, ◌≡◌, ◌⊎◌, true, false, O
 use Rattle.std.specs.Option.{is_some}
 use Rattle.ff_base.specs.declared.numbers.PageNo.{PageNo}
 use Rattle.ff_cache.specs.Cache.{is_full_set, way_at, with_value, IsChosen, IsEmptyWay}
-<<<<<<< HEAD
-use Rattle.ff_cache.specs.Slots.{cache_slot_at, slot_filled, slot_flushed, slot_flushing}
-=======
 use Rattle.ff_cache.specs.Slots.{cache_slot_at, slot_filled, slot_flushed, slot_flushing}
 use Rattle.ff_flash.specs.declared.flash.FlashStop.{FlashStop}
 use Rattle.ff_flash.specs.declared.flash.FlashStop.TheVariants.{Failed as FailedStop, Off as OffStop}
->>>>>>> e7683868755622e2d1da9dc1c3bc4a9cc8ae91c6
 use Rattle.ff_lines.specs.DeviceState.{IsDrained}
 use Rattle.ff_lines.specs.declared.device.Work.{Work}
 use Rattle.ff_lines.specs.declared.device.Work.TheVariants.{Ready, Stepped, Pinned, Failed, Off}

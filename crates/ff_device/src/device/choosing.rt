@@ -1,13 +1,8 @@
 // The way that gives way.
 ghost use Rattle.std.specs.Prelude.{◌≡◌, ◌<◌, ◌==◌, ◌+◌, ℕ, None, Some, IfNone, true, false, length, MatchOption, if◌then◌else◌};
 ghost use Rattle.ff_cache.specs.Cache.{first_of, is_full_set, way_at};
-<<<<<<< HEAD
-ghost use Rattle.ff_cache.specs.Slots.{is_empty, cache_slot_at};
-ghost use Rattle.ff_device.specs.DeviceFields.{parts_of};
-=======
 ghost use Rattle.ff_cache.specs.Slots.{is_empty, cache_slot_at};
 ghost use Rattle.ff_device.specs.Device.{parts_of};
->>>>>>> e7683868755622e2d1da9dc1c3bc4a9cc8ae91c6
 ghost use Rattle.ff_device.specs.Steps.{chosen_way, may_go, may_go_at};
 ghost use Rattle.ff_device.specs.WorkRows.{HasUnpinned, IsRaised};
 ghost use Rattle.ff_rrip.specs.Ways.{is_allowed};

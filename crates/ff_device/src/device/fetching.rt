@@ -1,14 +1,9 @@
 // A page that is fetched into a slot.
 ghost use Rattle.std.specs.Prelude.{◌≡◌, ◌<◌, ◌^◌, None, true, false, length};
 ghost use Rattle.ff_cache.specs.Cache.{IsInSet};
-<<<<<<< HEAD
-ghost use Rattle.ff_cache.specs.Slots.{held, cache_slot_at};
-ghost use Rattle.ff_device.specs.DeviceFields.{parts_of};
-=======
 ghost use Rattle.ff_cache.specs.Slots.{held, cache_slot_at};
 ghost use Rattle.ff_device.specs.StoreState.{seen_of};
 ghost use Rattle.ff_device.specs.Device.{parts_of};
->>>>>>> e7683868755622e2d1da9dc1c3bc4a9cc8ae91c6
 ghost use Rattle.ff_device.specs.Steps.{may_go};
 ghost use Rattle.ff_device.specs.StoreSteps.{CallsOnce};
 ghost use Rattle.ff_device.specs.WorkRows.{FetchRow, stop_of_work};
@@ -27,19 +22,10 @@ impl<F: Flash> Device<F> {
         requires idle { (seen_of self.old.store).pending ≡ None }
         requires absent { held self.old.cache.slots page.0 ≡ None }
         requires place { IsInSet self.old.cache page.0 slot }
-<<<<<<< HEAD
-        requires clean { (cache_slot_at self.old.cache.slots slot).dirty ≡ false }
-        requires goes { may_go self.old.window.posts (cache_slot_at self.old.cache.slots slot)
-            ≡ true }
-        ensures row { FetchRow page.0 slot result (parts_of S.seen self.old) (parts_of S.seen self.new) }
-        ensures powers { Powered result (S.seen self.old.store) (S.seen self.new.store) }
-        ensures same { SameStore (S.seen self.old.store) (S.seen self.new.store) }
-=======
         requires clean { (cache_slot_at self.old.cache.slots slot).dirty ≡ false }
         requires goes { may_go self.old.window.posts (cache_slot_at self.old.cache.slots slot) ≡ true }
         ensures row { FetchRow page.0 slot result (parts_of self.old) (parts_of self.new) }
         ensures calls { CallsOnce self.old.store (stop_of_work result) self.new.store }
->>>>>>> e7683868755622e2d1da9dc1c3bc4a9cc8ae91c6
         ensures busy { IsIdle result → ⊥ }
     {
         self.cache.known();

@@ -1,17 +1,10 @@
 // A dirty page that is flushed, and a flush that is sealed.
 ghost use Rattle.std.specs.Prelude.{◌≡◌, ◌<◌, ◌^◌, None, Some, IsSome, true, length};
-<<<<<<< HEAD
-ghost use Rattle.ff_cache.specs.Slots.{cache_slot_at};
-ghost use Rattle.ff_device.specs.DeviceFields.{parts_of};
-ghost use Rattle.ff_device.specs.Store.{SameStore};
-ghost use Rattle.ff_device.specs.WorkRows.{FlushRow, Powered, SealRow};
-=======
 ghost use Rattle.ff_cache.specs.Slots.{cache_slot_at};
 ghost use Rattle.ff_device.specs.StoreState.{seen_of};
 ghost use Rattle.ff_device.specs.Device.{parts_of};
 ghost use Rattle.ff_device.specs.StoreSteps.{CallsOnce};
 ghost use Rattle.ff_device.specs.WorkRows.{FlushRow, stop_of_work, SealRow};
->>>>>>> e7683868755622e2d1da9dc1c3bc4a9cc8ae91c6
 ghost use Rattle.ff_lines.specs.Works.{IsIdle};
 
 use super::slots::{begin_flush, end_flush};
@@ -50,18 +43,10 @@ impl<F: Flash> Device<F> {
         requires idle { (seen_of self.old.store).pending ≡ None }
         requires used { (seen_of self.old.store).used < 2 ^ 63 }
         requires slot { slot < length self.old.cache.slots }
-<<<<<<< HEAD
-        requires held { (cache_slot_at self.old.cache.slots slot).page ≡ Some page }
-        requires dirty { (cache_slot_at self.old.cache.slots slot).dirty ≡ true }
-        ensures row { FlushRow slot result (parts_of S.seen self.old) (parts_of S.seen self.new) }
-        ensures powers { Powered result (S.seen self.old.store) (S.seen self.new.store) }
-        ensures same { SameStore (S.seen self.old.store) (S.seen self.new.store) }
-=======
         requires held { (cache_slot_at self.old.cache.slots slot).page ≡ Some page }
         requires dirty { (cache_slot_at self.old.cache.slots slot).dirty ≡ true }
         ensures row { FlushRow slot result (parts_of self.old) (parts_of self.new) }
         ensures calls { CallsOnce self.old.store (stop_of_work result) self.new.store }
->>>>>>> e7683868755622e2d1da9dc1c3bc4a9cc8ae91c6
         ensures busy { IsIdle result → ⊥ }
     {
         self.cache.known();
@@ -83,16 +68,9 @@ impl<F: Flash> Device<F> {
         requires idle { (seen_of self.old.store).pending ≡ None }
         requires used { (seen_of self.old.store).used < 2 ^ 63 }
         requires slot { slot < length self.old.cache.slots }
-<<<<<<< HEAD
-        requires dirty { (cache_slot_at self.old.cache.slots slot).dirty ≡ true }
-        ensures row { FlushRow slot result (parts_of S.seen self.old) (parts_of S.seen self.new) }
-        ensures powers { Powered result (S.seen self.old.store) (S.seen self.new.store) }
-        ensures same { SameStore (S.seen self.old.store) (S.seen self.new.store) }
-=======
         requires dirty { (cache_slot_at self.old.cache.slots slot).dirty ≡ true }
         ensures row { FlushRow slot result (parts_of self.old) (parts_of self.new) }
         ensures calls { CallsOnce self.old.store (stop_of_work result) self.new.store }
->>>>>>> e7683868755622e2d1da9dc1c3bc4a9cc8ae91c6
         ensures busy { IsIdle result → ⊥ }
     {
         self.cache.known();
