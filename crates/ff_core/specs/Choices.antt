@@ -75,11 +75,11 @@ EvictChoice score h (Some (Advance slot)) = IsNextSlot Leaving h.memory.slots sl
 EvictChoice score h (Some (Evict frame)) =
     IsNoneMoving Leaving h.memory.slots
     × ((page : PageNo) × IsEvicted score h frame page
-      × ((lines_under h).resident page.0 ≡ true))
+    × ((lines_under h).resident page.0 ≡ true))
 EvictChoice score h (Some (Work page)) =
     IsNoneMoving Leaving h.memory.slots
     × ((frame : ℕ) × IsEvicted score h frame page
-      × ((lines_under h).resident page.0 ≡ false))
+    × ((lines_under h).resident page.0 ≡ false))
 EvictChoice score h (Some action) = ⊥
 
 -- a flush waits, or a collection runs or is due

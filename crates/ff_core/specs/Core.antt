@@ -1,30 +1,19 @@
 -- What a contract sees of a core.
-use Rattle.std.specs.Prelude.{ℕ, ◌+◌, ◌-◌, ◌∷◌, ◌++◌, [], List, length, min, replicate}
+use Rattle.std.specs.Prelude.{ℕ, ◌+◌, ◌-◌, ◌∷◌, ◌++◌, [], List, length, min}
 use Rattle.ff_base.specs.Count.{last_event}
-use Rattle.ff_base.specs.Geometry.{capacity_of}
 use Rattle.ff_base.specs.declared.geometry.Geometry.{Geometry}
 use Rattle.ff_base.specs.declared.numbers.Caller.{Caller}
-use Rattle.ff_cache.specs.Cache.{fresh_cache}
-use Rattle.ff_evict.specs.Picker.{PickerView}
-use Rattle.ff_flash.specs.FlashState.{FlashState}
-use Rattle.ff_gc.specs.Counts.{no_counts, total_of}
+use Rattle.ff_gc.specs.Counts.{total_of}
 use Rattle.ff_gc.specs.declared.counts.Counts.{Counts as FlashCounts}
-use Rattle.ff_memory.specs.Memory.{fresh_memory}
-use Rattle.ff_model.specs.Image.{empty_content}
 use Rattle.ff_model.specs.declared.counts.Counts.{Counts}
 use Rattle.ff_model.specs.History.{Entries}
-use Rattle.ff_model.specs.Legal.{Opening, opening_of}
+use Rattle.ff_model.specs.Legal.{Opening}
 use Rattle.ff_model.specs.declared.history.Entry.{Entry}
 use Rattle.ff_model.specs.declared.op.Op.{Op}
 use Rattle.ff_model.specs.declared.op.Reply.{Reply}
 use Rattle.ff_core.specs.Hierarchy.{HierarchyView, flash_of}
 use Rattle.ff_core.specs.Log.{LogView}
-use Rattle.ff_core.specs.Tally.{no_tally}
-use Rattle.ff_core.specs.declared.core_state.Room.{Room}
 use Rattle.ff_core.specs.declared.tally.Tally.{Tally}
-use Rattle.ff_policy.specs.Policy.{fresh_policy}
-use Rattle.ff_policy.specs.Tuner.{TunerView}
-use Rattle.ff_store.specs.PageStore.{new_store}
 
 -- how the session was opened, its geometry, how many operations of each kind the store had counted then, its answered
 -- calls, the event number, its background turns, what was done, and the hierarchy
@@ -82,33 +71,4 @@ counts_of core = record {
   seals = core.hierarchy.device.store.world.counts.seals - core.from_counts.seals;
   erases = core.hierarchy.device.store.world.counts.erases - core.from_counts.erases;
   faults = (flash_of core.hierarchy).faults - core.opening.faults;
-}
-
--- a hierarchy over a flash of which every page is erased, in which nothing was stored
-abbrev pub fresh_hierarchy : {T E : Type 0} → FlashState → Geometry → TunerView T → PickerView E
-    → HierarchyView T E
-fresh_hierarchy flash geometry tuner picker = record {
-  memory = fresh_memory geometry.frames geometry.pages (replicate geometry.pages 0) geometry.plb
-      (capacity_of geometry);
-  device = record {
-    store = new_store flash geometry;
-    cache = fresh_cache geometry.sets geometry.ways;
-    window = record { posts = []; room = geometry.window };
-  };
-  policy = fresh_policy geometry.pages tuner;
-  evictor = record { hand = 0; picker = picker };
-}
-
--- a first session: it starts from nothing, at event 0
-abbrev pub fresh_core : {T E : Type 0} → FlashState → Geometry → TunerView T → PickerView E → Room
-    → CoreView T E
-fresh_core flash geometry tuner picker room = record {
-  opening = opening_of (empty_content geometry.pages) geometry 0 flash.faults;
-  geometry = geometry;
-  from_counts = no_counts;
-  history = record { entries = []; room = room.calls };
-  events = 0;
-  log = record { turns = []; room = room.turns };
-  tally = no_tally;
-  hierarchy = fresh_hierarchy flash geometry tuner picker;
 }

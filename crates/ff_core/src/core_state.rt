@@ -7,17 +7,20 @@ ghost use Rattle.ff_model.specs.declared.counts.Kind.TheVariants.{Promote, Evict
 ghost use Rattle.ff_core.specs.Backs.{IsBack};
 ghost use Rattle.ff_core.specs.Core.{counts_of, spare_calls, spare_turns};
 ghost use Rattle.ff_core.specs.CoreSound.{IsCoreSound};
+ghost use Rattle.ff_core.specs.Fresh.{IsFreshFlash, fresh_core};
 ghost use Rattle.ff_core.specs.Hierarchy.{flash_of};
 ghost use Rattle.ff_core.specs.Turns.{IsTurn};
 
+use crate::fresh::{FreshBack, fresh_state};
 use crate::log::{Back, Log};
 use crate::state::State;
 use crate::turn::Turn;
 use ff_base::{Caller, Geometry};
-use ff_evict::Pick;
+use ff_evict::{Pick, Picker};
 use ff_flash::Flash;
 use ff_model::{Counts, History, Kind, Op};
-use ff_policy::Tune;
+use ff_policy::{Tune, Tuner};
+use std::alloc::Global;
 use std::marker::Model;
 
 /// For how many calls and background turns a core has room.
@@ -45,6 +48,28 @@ impl<F: Flash, T: Tune, E: Pick> Model for Core<F, T, E> {
 }
 
 impl<F: Flash, T: Tune, E: Pick> Core<F, T, E> {
+    /// A first session, over a flash of which every page is erased: nothing is stored, and the event number is 0. The
+    /// error is want of memory, and hands the arguments back.
+    pub fn fresh(
+        alloc: Global,
+        flash: F,
+        geometry: Geometry,
+        tuner: Tuner<T>,
+        picker: Picker<E>,
+        room: Room,
+    ) -> Result<Core<F, T, E>, FreshBack<F, T, E>>
+        requires limits { IsWithinLimits geometry }
+        requires flash { IsFreshFlash geometry (F.state flash) }
+        ensures { MatchResult result
+            (λ core. core ≡ fresh_core (F.state flash) geometry tuner picker room)
+            (λ back. back ≡ record { flash = flash; tuner = tuner; picker = picker }) }
+    {
+        match fresh_state(alloc, flash, geometry, tuner, picker, room) {
+            Ok(state) => Ok(Core { state }),
+            Err(back) => Err(back),
+        }
+    }
+
     /// One event of a call, with at most one flash operation. It takes no memory. With the power off it does nothing.
     pub fn turn(&mut self, caller: Caller, number: u32, op: &Op) -> Turn
         requires spare { 0 < spare_calls self.old }

@@ -1,13 +1,14 @@
 // How a first session begins.
-ghost use Rattle.std.specs.Prelude.{◌≡◌, ◌*◌, ◌≤◌, ◌^◌, replicate, true, IfOk, MatchResult, []};
+ghost use Rattle.std.specs.Prelude.{◌≡◌, ◌*◌, ◌≤◌, ◌^◌, replicate, true, IfOk, IfErr, MatchResult, []};
 ghost use Rattle.ff_base.specs.Geometry.{IsWithinLimits, capacity_of};
 ghost use Rattle.ff_cache.specs.Cache.{fresh_cache};
 ghost use Rattle.ff_flash.specs.Cells.{erased};
+ghost use Rattle.ff_flash.specs.FlashState.{FlashState};
 ghost use Rattle.ff_memory.specs.Memory.{fresh_memory};
 ghost use Rattle.ff_model.specs.Image.{empty_content};
-ghost use Rattle.ff_policy.specs.Policy.{fresh_policy};
 ghost use Rattle.ff_store.specs.PageStore.{new_store};
-ghost use Rattle.ff_core.specs.Core.{fresh_core};
+ghost use Rattle.ff_table.specs.Table.{fresh_table};
+ghost use Rattle.ff_core.specs.Fresh.{IsFreshFlash, fresh_core, fresh_device};
 
 use crate::core_state::{Core, Room};
 use crate::hierarchy::Hierarchy;
@@ -32,25 +33,23 @@ use std::alloc::Global;
 
 /// What a core that could not be made hands back, for want of memory.
 #[derive(Drop)]
-pub struct FreshBack<F, T, E> {
+pub struct FreshBack<F: Flash, T: Tune, E: Pick> {
     pub flash: F,
     pub tuner: Tuner<T>,
     pub picker: Picker<E>,
 }
 
-// What a session is made of, beside the flash, the tuner and the picker.
+// What a session keeps beside its device and its policy.
 #[derive(Drop)]
-struct Pieces {
+struct Books {
     base: Image,
     history: History,
     log: Log,
     memory: Memory,
-    cache: Cache,
-    window: Window,
 }
 
-fn fresh_table(alloc: Global, pages: u32) -> Result<Table, NoMemory>
-    ensures { IfOk result (λ table. table ≡ Rattle.ff_table.specs.Table.fresh_table pages (replicate pages 0)) }
+fn make_table(alloc: Global, pages: u32) -> Result<Table, NoMemory>
+    ensures { IfOk result (λ table. table ≡ fresh_table pages (replicate pages 0)) }
 {
     let marks = Marks::new(alloc, pages)?;
     match Table::new(alloc, pages, marks) {
@@ -65,73 +64,176 @@ fn make_memory(alloc: Global, geometry: &Geometry) -> Result<Memory, NoMemory>
         (replicate geometry.now.pages 0) geometry.now.plb (capacity_of geometry.now)) }
 {
     let frames = Frames::new(alloc, geometry.frames)?;
-    let table = fresh_table(alloc, geometry.pages)?;
+    let table = make_table(alloc, geometry.pages)?;
     let plb = Plb::new(alloc, geometry.plb)?;
     Ok(Memory::new(frames, table, plb, geometry.capacity()))
 }
 
-fn make_pieces(alloc: Global, geometry: &Geometry, room: Room) -> Result<Pieces, NoMemory>
+fn make_books(alloc: Global, geometry: &Geometry, room: Room) -> Result<Books, NoMemory>
     requires { IsWithinLimits geometry.now }
-    ensures base { IfOk result (λ pieces. pieces.base ≡ empty_content geometry.now.pages) }
-    ensures history { IfOk result (λ pieces. pieces.history ≡ record { entries = []; room = room.calls }) }
-    ensures log { IfOk result (λ pieces. pieces.log ≡ record { turns = []; room = room.turns }) }
-    ensures memory { IfOk result (λ pieces. pieces.memory
-        ≡ fresh_memory geometry.now.frames geometry.now.pages (replicate geometry.now.pages 0)
-        geometry.now.plb (capacity_of geometry.now)) }
-    ensures cache { IfOk result (λ pieces. pieces.cache
-        ≡ fresh_cache geometry.now.sets geometry.now.ways) }
-    ensures window { IfOk result (λ pieces. pieces.window
-        ≡ record { posts = []; room = geometry.now.window }) }
+    ensures { IfOk result (λ books. books ≡ record {
+      base = empty_content geometry.now.pages;
+      history = record { entries = []; room = room.calls };
+      log = record { turns = []; room = room.turns };
+      memory = fresh_memory geometry.now.frames geometry.now.pages (replicate geometry.now.pages 0)
+          geometry.now.plb (capacity_of geometry.now);
+    }) }
 {
-    Ok(Pieces {
+    Ok(Books {
         base: Image::new(alloc, geometry.pages)?,
         history: History::new(alloc, room.calls)?,
         log: Log::new(alloc, room.turns)?,
         memory: make_memory(alloc, geometry)?,
+    })
+}
+
+// An empty cache and an empty window.
+#[derive(Drop)]
+struct Buffers {
+    cache: Cache,
+    window: Window,
+}
+
+fn make_buffers(alloc: Global, geometry: &Geometry) -> Result<Buffers, NoMemory>
+    requires { IsWithinLimits geometry.now }
+    ensures { IfOk result (λ buffers. buffers ≡ record {
+      cache = fresh_cache geometry.now.sets geometry.now.ways;
+      window = record { posts = []; room = geometry.now.window };
+    }) }
+{
+    Ok(Buffers {
         cache: Cache::new(alloc, geometry)?,
         window: Window::new(alloc, geometry.window)?,
     })
 }
 
-// The parts of a session, of its pieces and the policy, over a device.
+// A device over a flash of which every page is erased. The error is want of memory, and hands the flash back.
+fn make_device<F: Flash>(alloc: Global, flash: F, geometry: &Geometry) -> Result<Device<F>, F>
+    requires limits { IsWithinLimits geometry.now }
+    requires flash { IsFreshFlash geometry.now (F.state flash) }
+    ensures ok { IfOk result (λ device. device ≡ fresh_device (F.state flash) geometry.now) }
+    ensures err { IfErr result (λ back. back ≡ flash) }
+{
+    let Ok(buffers) = make_buffers(alloc, geometry) else {
+        return Err(flash);
+    };
+    let store = PageStore::new(alloc, flash, geometry)?;
+    match Device::new(alloc, store, buffers.cache, buffers.window) {
+        Ok(device) => Ok(device),
+        Err(parts) => Err(parts.store.into_flash()),
+    }
+}
+
+// The parts of a session.
 fn assemble<F: Flash, T: Tune, E: Pick>(
-    pieces: Assembled<T>,
+    books: Books,
+    policy: Policy<T>,
     device: Device<F>,
     picker: Picker<E>,
     geometry: Geometry,
 ) -> State<F, T, E>
     ensures { result ≡ record {
-      opening = opening_of pieces.base geometry 0 (flash_in device).faults;
+      opening = Rattle.ff_model.specs.Legal.opening_of books.base geometry 0 device.store.world.flash.faults;
       geometry = geometry;
-      from_counts = no_counts;
-      history = pieces.history;
+      from_counts = Rattle.ff_gc.specs.Counts.no_counts;
+      history = books.history;
       events = 0;
-      log = pieces.log;
-      tally = no_tally;
+      log = books.log;
+      tally = Rattle.ff_core.specs.Tally.no_tally;
       hierarchy = record {
-        memory = pieces.memory;
+        memory = books.memory;
         device = device;
-        policy = pieces.policy;
+        policy = policy;
         evictor = record { hand = 0; picker = picker };
       };
     } }
 {
     let from_faults = device.store().flash().fault_count();
     State {
-        base: pieces.base,
+        base: books.base,
         geometry,
         from_event: 0,
         from_faults,
         from_counts: Counts::new(),
-        history: pieces.history,
+        history: books.history,
         events: 0,
-        log: pieces.log,
+        log: books.log,
         tally: Tally::default(),
         hierarchy: Hierarchy {
-            memory: pieces.memory,
+            memory: books.memory,
             device,
-            policy: pieces.policy,
+            policy,
             evictor: Evictor::new(picker),
         },
+    }
+}
+
+// The parts of a first session over a flash of which every page is erased.
+pub fn fresh_state<F: Flash, T: Tune, E: Pick>(
+    alloc: Global,
+    flash: F,
+    geometry: Geometry,
+    tuner: Tuner<T>,
+    picker: Picker<E>,
+    room: Room,
+) -> Result<State<F, T, E>, FreshBack<F, T, E>>
+    requires limits { IsWithinLimits geometry }
+    requires flash { IsFreshFlash geometry (F.state flash) }
+    ensures { MatchResult result
+        (λ state. state ≡ fresh_core (F.state flash) geometry tuner picker room)
+        (λ back. back ≡ record { flash = flash; tuner = tuner; picker = picker }) }
+{
+    let Ok(books) = make_books(alloc, &geometry, room) else {
+        return Err(FreshBack {
+            flash,
+            tuner,
+            picker,
+        });
+    };
+    match Policy::new(alloc, geometry.pages, tuner) {
+        Ok(policy) => fresh_over(alloc, flash, geometry, books, policy, picker),
+        Err(tuner) => Err(FreshBack {
+            flash,
+            tuner,
+            picker,
+        }),
+    }
+}
+
+fn fresh_over<F: Flash, T: Tune, E: Pick>(
+    alloc: Global,
+    flash: F,
+    geometry: Geometry,
+    books: Books,
+    policy: Policy<T>,
+    picker: Picker<E>,
+) -> Result<State<F, T, E>, FreshBack<F, T, E>>
+    requires limits { IsWithinLimits geometry }
+    requires flash { IsFreshFlash geometry (F.state flash) }
+    ensures ok { IfOk result (λ state. state ≡ record {
+      opening = Rattle.ff_model.specs.Legal.opening_of books.base geometry 0 (F.state flash).faults;
+      geometry = geometry;
+      from_counts = Rattle.ff_gc.specs.Counts.no_counts;
+      history = books.history;
+      events = 0;
+      log = books.log;
+      tally = Rattle.ff_core.specs.Tally.no_tally;
+      hierarchy = record {
+        memory = books.memory;
+        device = fresh_device (F.state flash) geometry;
+        policy = policy;
+        evictor = record { hand = 0; picker = picker };
+      };
+    }) }
+    ensures err { IfErr result (λ back. back
+        ≡ record { flash = flash; tuner = policy.tuner; picker = picker }) }
+{
+    match make_device(alloc, flash, &geometry) {
+        Ok(device) => Ok(assemble(books, policy, device, picker, geometry)),
+        Err(flash) => Err(FreshBack {
+            flash,
+            tuner: policy.into_tuner(),
+            picker,
+        }),
     }
 }

@@ -11,8 +11,8 @@ use crate::tally::Tally;
 use ff_base::{Geometry, LAST_EVENT};
 use ff_evict::Pick;
 use ff_flash::Flash;
-use ff_gc::Counts;
-use ff_model::{History, Image};
+use ff_gc::Counts as FlashCounts;
+use ff_model::{Counts, History, Image};
 use ff_policy::Tune;
 use std::marker::Model;
 
@@ -23,7 +23,7 @@ pub struct State<F: Flash, T: Tune, E: Pick> {
     pub(crate) geometry: Geometry,
     pub(crate) from_event: u64,
     pub(crate) from_faults: u64,
-    pub(crate) from_counts: Counts,
+    pub(crate) from_counts: FlashCounts,
     pub(crate) history: History,
     pub(crate) events: u64,
     pub(crate) log: Log,
@@ -59,6 +59,7 @@ fn next_number(event: u64) -> u64
 
 impl<F: Flash, T: Tune, E: Pick> State<F, T, E> {
     ghost use Rattle.ff_core.specs.Core.{counts_of, spare_calls, spare_turns};
+    ghost use Rattle.ff_core.specs.CoreSound.{IsCoreSound};
 
     pub(crate) fn spare_calls(&self) -> u32
         ensures { result ≡ spare_calls self.now }
@@ -70,5 +71,26 @@ impl<F: Flash, T: Tune, E: Pick> State<F, T, E> {
         ensures { result ≡ spare_turns self.now }
     {
         self.log.spare()
+    }
+
+    // What the session did.
+    pub(crate) fn counts(&self) -> Counts
+        requires { IsCoreSound self.now }
+        ensures { result ≡ counts_of self.now }
+    {
+        let flash = self.hierarchy.device.store().counts();
+        Counts {
+            device: self.tally.device,
+            host: self.tally.host,
+            landed: self.tally.landed,
+            dropped: self.tally.dropped,
+            promoted: self.tally.promoted,
+            retreated: self.tally.retreated,
+            reads: flash.reads - self.from_counts.reads,
+            programs: flash.programs - self.from_counts.programs,
+            seals: flash.seals - self.from_counts.seals,
+            erases: flash.erases - self.from_counts.erases,
+            faults: self.hierarchy.faults() - self.from_faults,
+        }
     }
 }

@@ -19,7 +19,6 @@ use ff_lines::LineDevice;
 use ff_model::{Kind, Op};
 use ff_plb::{NextStep, Way};
 use ff_policy::Tune;
-use ff_table::Home;
 
 impl<F: Flash, T: Tune, E: Pick> Hierarchy<F, T, E> {
     // What a background turn does, or nothing.
@@ -65,20 +64,13 @@ impl<F: Flash, T: Tune, E: Pick> Hierarchy<F, T, E> {
         }
     }
 
-    // Whether the page may come in, and is hot, where a frame and a slot are free.
-    fn may_promote(&self, page: PageNo) -> bool
+    // Whether the page may come in, and is hot.
+    fn is_promotable(&self, page: PageNo) -> bool
         requires page { page.0 < length self.now.memory.table.homes }
         requires counters { length self.now.policy.counters ≡ length self.now.memory.table.homes }
-        requires frame { IsNoneFree self.now.memory.frames → ⊥ }
-        requires slot { IsNoneEmpty self.now.memory.slots → ⊥ }
         ensures { IsTrue result ↔ IsPromotable self.now page.0 }
     {
-        let table = self.memory.table();
-        self.policy.is_hot(page)
-            && table.home(page) == Home::Ssd
-            && table.marks(page) == 0
-            && self.memory.plb().find(page).is_none()
-            && self.device.resident(page)
+        self.policy.is_hot(page) && self.memory.can_promote(&self.device, page)
     }
 
     // The least hot page that may come in.
@@ -87,11 +79,11 @@ impl<F: Flash, T: Tune, E: Pick> Hierarchy<F, T, E> {
         ensures { MatchOption result ((page : ℕ) → IsPromotable self.now page → ⊥)
             (λ page. IsLeastPromotable self.now page.0) }
     {
-        if self.memory.frames().free() == 0 || self.memory.plb().free_slot().is_none() {
+        if self.memory.frames().is_full() || self.memory.plb().free_slot().is_none() {
             return None;
         }
         for page in 0..self.memory.table().pages() {
-            if self.may_promote(PageNo(page)) {
+            if self.is_promotable(PageNo(page)) {
                 return Some(PageNo(page));
             }
         }
@@ -114,10 +106,12 @@ impl<F: Flash, T: Tune, E: Pick> Hierarchy<F, T, E> {
         requires hand { IsHandInside self.now.evictor.hand self.now.memory.frames }
         ensures { EvictChoice E.score self.now result }
     {
-        if self.memory.frames().free() > 0 || self.memory.plb().free_slot().is_none() {
+        if !self.memory.frames().is_full() || self.memory.plb().free_slot().is_none() {
             return None;
         }
-        let frame = self.evictor.choose(self.memory.frames(), self.memory.plb())?;
+        let frame = self
+            .evictor
+            .choose(self.memory.frames(), self.memory.plb())?;
         let page = self.memory.frames().page(frame)?;
         if self.device.resident(page) {
             Some(Action::Evict(frame))

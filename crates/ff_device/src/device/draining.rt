@@ -9,6 +9,14 @@ use crate::Device;
 use ff_flash::Flash;
 
 impl<F: Flash> Device<F> {
+    /// How many posts wait.
+    pub fn waiting(&self) -> u32
+        ensures count { result ≡ length self.now.window.posts }
+        ensures few { length self.now.window.posts ≤ self.now.window.room }
+    {
+        self.window.len()
+    }
+
     /// Drains the oldest post. Whether one waited.
     pub fn drain_one(&mut self) -> bool
         ensures found { result ≡ nat_lt 0 (length self.old.window.posts) }
