@@ -9,6 +9,7 @@ use Rattle.ff_memory.specs.Located.{IsLocated}
 use Rattle.ff_plb.specs.Plb.{IsInUse}
 use Rattle.ff_core.specs.Choices.{CanCollect, IsPromotable}
 use Rattle.ff_core.specs.Hierarchy.{HierarchyView, flash_of, lines_under}
+use Rattle.ff_core.specs.Misses.{IsAbsent}
 use Rattle.ff_core.specs.declared.action.Action.{Action}
 use Rattle.ff_core.specs.declared.action.Action.TheVariants.{Advance, TurnBack, Work, Promote, Retreat, Evict, Collect, Drain}
 
@@ -19,11 +20,6 @@ pub record IsGiven {T E : Type 0} (h : HierarchyView T E) : Type 0 where
   pub life : HasOperationsLeft (flash_of h)
   pub counters : length h.policy.counters ≡ length h.memory.table.homes
   pub hand : IsHandInside h.evictor.hand h.memory.frames
-
--- the page isn't resident
-pub record IsAbsent {T E : Type 0} (h : HierarchyView T E) (page : ℕ) : Type 0 where
-  pub in_range : page < length h.memory.table.homes
-  pub absent : (lines_under h).resident page ≡ false
 
 -- the page of the frame may go back
 pub record IsEvictable {T E : Type 0} (h : HierarchyView T E) (frame : ℕ) : Type 0 where

@@ -1,7 +1,8 @@
 -- What is done for a call that isn't served at once.
-use Rattle.std.specs.Prelude.{ℕ, Bool, true, false, ◌≡◌, Option, Some, None}
+use Rattle.std.specs.Prelude.{ℕ, ◌<◌, ◌≡◌, true, false, length, Some, None}
 use Rattle.ff_base.specs.declared.numbers.PageNo.{PageNo}
-use Rattle.ff_memory.specs.Memory.{MemoryView, entry_at}
+use Rattle.ff_memory.specs.Memory.{entry_at}
+use Rattle.ff_memory.specs.Places.{is_home}
 use Rattle.ff_model.specs.declared.op.Op.{Op}
 use Rattle.ff_model.specs.declared.op.Op.TheVariants.{Load, Store, Verify, Mark, Release}
 use Rattle.ff_plb.specs.Plb.{IsFound, IsNoneEmpty}
@@ -44,10 +45,20 @@ IsMissAction (Mark marked from count) page h action = IsMarkAction h page action
 IsMissAction Verify page h action = ⊥
 IsMissAction (Release released from count) page h action = ⊥
 
--- a call that can miss
-abbrev pub IsMissOp : Op → Type 0
-IsMissOp (Load at len) = Unit {0}
-IsMissOp (Store at bytes) = Unit {0}
-IsMissOp (Mark page from count) = Unit {0}
-IsMissOp Verify = ⊥
-IsMissOp (Release page from count) = ⊥
+-- a page isn't resident
+pub record IsAbsent {T E : Type 0} (h : HierarchyView T E) (page : ℕ) : Type 0 where
+  pub in_range : page < length h.memory.table.homes
+  pub absent : (lines_under h).resident page ≡ false
+
+-- a page isn't home
+pub record IsAway {T E : Type 0} (h : HierarchyView T E) (page : ℕ) : Type 0 where
+  pub in_range : page < length h.memory.table.homes
+  pub away : is_home h.memory page ≡ false
+
+-- a call misses a page: a load or a store one that isn't resident, and a mark one that isn't home
+abbrev pub IsMissed : {T E : Type 0} → Op → PageNo → HierarchyView T E → Type 0
+IsMissed (Load at len) page h = IsAbsent h page.0
+IsMissed (Store at bytes) page h = IsAbsent h page.0
+IsMissed (Mark marked from count) page h = IsAway h page.0
+IsMissed Verify page h = ⊥
+IsMissed (Release released from count) page h = ⊥

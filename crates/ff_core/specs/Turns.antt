@@ -70,24 +70,29 @@ AfterStep Failed action page old caller number op turn h new =
 AfterStep ProgressOff action page old caller number op turn h new =
     (turn ≡ Off) × (new ≡ record old { hierarchy = h })
 
--- a call missed a page, and one step was made for it
-pub record IsMissStep {T E : Type 0} (old : CoreView T E) (caller : Caller) (number : ℕ) (op : Op)
-    (turn : Turn) (new : CoreView T E) : Type 0 where
-  pub page : PageNo
-  pub missed : IsAccess op (length old.history.entries) old.hierarchy (AccessMiss page)
-      old.hierarchy
+-- one step was made for a call that missed a page
+pub record IsMissStep {T E : Type 0} (page : PageNo) (old : CoreView T E) (caller : Caller)
+    (number : ℕ) (op : Op) (turn : Turn) (new : CoreView T E) : Type 0 where
   pub action : Action
   pub asked : IsMissAction op page old.hierarchy action
   pub progress : Progress
   pub performs : Performs action old.hierarchy progress new.hierarchy
   pub after : AfterStep progress action page old caller number op turn new.hierarchy new
 
+-- a call missed a page: no line, no operation and nothing of the memory changed, and one step was made for it
+pub record IsMiss {T E : Type 0} (old : CoreView T E) (caller : Caller) (number : ℕ) (op : Op)
+    (turn : Turn) (new : CoreView T E) : Type 0 where
+  pub page : PageNo
+  pub between : HierarchyView T E
+  pub access : IsAccess op (length old.history.entries) old.hierarchy (AccessMiss page) between
+  pub step : IsMissStep page (record old { hierarchy = between }) caller number op turn new
+
 -- a call that isn't refused at once is served, or a step is made for it
 pub data IsAttempt {T E : Type 0} (answers : T → ℕ → ℕ → ℕ → ℕ → Type 0) (old : CoreView T E)
     (caller : Caller) (number : ℕ) (op : Op) (turn : Turn) (new : CoreView T E) : Type 0 where
   serves : (reply : Reply) → turn ≡ Served reply → IsServed answers old caller number op reply new
       → IsAttempt answers old caller number op turn new
-  misses : IsMissStep old caller number op turn new → IsAttempt answers old caller number op turn new
+  misses : IsMiss old caller number op turn new → IsAttempt answers old caller number op turn new
 
 abbrev pub IsTurnBy : {T E : Type 0} → Option Reply → (T → ℕ → ℕ → ℕ → ℕ → Type 0) → CoreView T E
     → Caller → ℕ → Op → Turn → CoreView T E → Type 0

@@ -8,7 +8,10 @@ ghost use Rattle.ff_memory.specs.Memory.{fresh_memory};
 ghost use Rattle.ff_model.specs.Image.{empty_content};
 ghost use Rattle.ff_store.specs.PageStore.{new_store};
 ghost use Rattle.ff_table.specs.Table.{fresh_table};
+ghost use Rattle.ff_gc.specs.Counts.{no_counts};
+ghost use Rattle.ff_model.specs.Legal.{opening_of};
 ghost use Rattle.ff_core.specs.Fresh.{IsFreshFlash, fresh_core, fresh_device};
+ghost use Rattle.ff_core.specs.Tally.{no_tally};
 
 use crate::core_state::{Core, Room};
 use crate::hierarchy::Hierarchy;
@@ -133,13 +136,13 @@ fn assemble<F: Flash, T: Tune, E: Pick>(
     geometry: Geometry,
 ) -> State<F, T, E>
     ensures { result ≡ record {
-      opening = Rattle.ff_model.specs.Legal.opening_of books.base geometry 0 device.store.world.flash.faults;
+      opening = opening_of books.base geometry 0 device.store.world.flash.faults;
       geometry = geometry;
-      from_counts = Rattle.ff_gc.specs.Counts.no_counts;
+      from_counts = no_counts;
       history = books.history;
       events = 0;
       log = books.log;
-      tally = Rattle.ff_core.specs.Tally.no_tally;
+      tally = no_tally;
       hierarchy = record {
         memory = books.memory;
         device = device;
@@ -211,13 +214,13 @@ fn fresh_over<F: Flash, T: Tune, E: Pick>(
     requires limits { IsWithinLimits geometry }
     requires flash { IsFreshFlash geometry (F.state flash) }
     ensures ok { IfOk result (λ state. state ≡ record {
-      opening = Rattle.ff_model.specs.Legal.opening_of books.base geometry 0 (F.state flash).faults;
+      opening = opening_of books.base geometry 0 (F.state flash).faults;
       geometry = geometry;
-      from_counts = Rattle.ff_gc.specs.Counts.no_counts;
+      from_counts = no_counts;
       history = books.history;
       events = 0;
       log = books.log;
-      tally = Rattle.ff_core.specs.Tally.no_tally;
+      tally = no_tally;
       hierarchy = record {
         memory = books.memory;
         device = fresh_device (F.state flash) geometry;

@@ -5,7 +5,7 @@ ghost use Rattle.ff_memory.specs.Located.{IsLocated};
 ghost use Rattle.ff_memory.specs.Places.{is_home};
 ghost use Rattle.ff_core.specs.Choices.{CollectChoice, DrainChoice, EvictChoice, IsChoice, IsLeastPromotable, IsNextSlot, IsNoneMoving, IsPromotable, PromoteChoice};
 ghost use Rattle.ff_core.specs.Hierarchy.{lines_under};
-ghost use Rattle.ff_core.specs.Misses.{IsActionAtRest, IsMarkAction, IsMissAction, IsMissOp, action_in_flight};
+ghost use Rattle.ff_core.specs.Misses.{IsActionAtRest, IsMarkAction, IsMissAction, IsMissed, action_in_flight};
 ghost use Rattle.ff_plb.specs.Plb.{HasEntry, IsInUse};
 ghost use Rattle.ff_plb.specs.declared.slot.Slot.{Slot};
 ghost use Rattle.ff_plb.specs.declared.slot.Way.TheVariants.{Leaving};
@@ -142,7 +142,8 @@ impl<F: Flash, T: Tune, E: Pick> Hierarchy<F, T, E> {
 
     // What is done for a load, a store or a mark that missed this page.
     pub(crate) fn miss_action(&self, op: &Op, page: PageNo) -> Action
-        requires op { IsMissOp op.now }
+        requires missed { IsMissed op.now page self.now }
+        requires located { IsLocated self.now.memory (lines_under self.now) }
         ensures { IsMissAction op.now page self.now result }
     {
         match op {

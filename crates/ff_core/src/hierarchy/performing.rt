@@ -2,9 +2,10 @@
 ghost use Rattle.std.specs.Prelude.{ℕ, ◌≡◌, ◌<◌, length, true};
 ghost use Rattle.ff_memory.specs.Begins.{CanRetreat, IsComingSlot};
 ghost use Rattle.ff_plb.specs.Plb.{IsFound, IsInUse};
-ghost use Rattle.ff_core.specs.CanPerform.{CanPerform, IsAbsent, IsEvictable, IsGiven};
+ghost use Rattle.ff_core.specs.CanPerform.{CanPerform, IsEvictable, IsGiven};
 ghost use Rattle.ff_core.specs.Choices.{CanCollect, IsPromotable};
 ghost use Rattle.ff_core.specs.Hierarchy.{lines_under};
+ghost use Rattle.ff_core.specs.Misses.{IsAbsent};
 ghost use Rattle.ff_core.specs.Performs.{HasCollected, HasDrained, HasEvicted, HasPromoted, HasRetreated, IsAdvanced, IsTurnedBack, IsWorkedFor, Performs, progress_of};
 
 use crate::action::{Action, Progress};

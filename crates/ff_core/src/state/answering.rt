@@ -1,15 +1,20 @@
 // The events of calls.
-ghost use Rattle.std.specs.Prelude.{◌≡◌, ◌<◌, Option};
+ghost use Rattle.std.specs.Prelude.{◌≡◌, ◌<◌, ◌≤◌, ◌+◌, ◌^◌, None, true, length};
+ghost use Rattle.ff_base.specs.Count.{last_event};
 ghost use Rattle.ff_core.specs.Core.{spare_calls};
 ghost use Rattle.ff_core.specs.CoreSound.{IsCoreSound};
 ghost use Rattle.ff_core.specs.Hierarchy.{flash_of};
-ghost use Rattle.ff_core.specs.Turns.{IsAttempt, IsTurn, answered, refusal};
+ghost use Rattle.ff_core.specs.Misses.{IsMissed};
+ghost use Rattle.ff_core.specs.Serving.{PolicyAfter, page_asked};
+ghost use Rattle.ff_core.specs.Tally.{served_by};
+ghost use Rattle.ff_core.specs.Turns.{IsAttempt, IsMissStep, IsTurn, answered, refusal};
+ghost use Rattle.ff_core.specs.declared.turn.Turn.TheVariants.{Served};
 
 use super::next_number;
 use crate::action::Progress;
 use crate::state::State;
 use crate::turn::Turn;
-use ff_base::{Caller, LAST_EVENT, PageNo};
+use ff_base::{Caller, LAST_EVENT, PAGE_BYTES, PageNo};
 use ff_evict::Pick;
 use ff_flash::Flash;
 use ff_memory::{Access, Side};
@@ -45,7 +50,13 @@ impl<F: Flash, T: Tune, E: Pick> State<F, T, E> {
         None
     }
 
-    fn refuse(&mut self, caller: Caller, number: u32, op: &Op, reply: Reply) -> Turn {
+    // Answers a call, and does nothing else.
+    fn refuse(&mut self, caller: Caller, number: u32, op: &Op, reply: Reply) -> Turn
+        requires spare { 0 < spare_calls self.old }
+        requires time { self.old.events ≤ last_event }
+        ensures turn { result ≡ Served reply }
+        ensures core { self.new ≡ answered self.old caller number op.now reply }
+    {
         self.answer(caller, number, op, &reply);
         Turn::Served(reply)
     }
@@ -53,6 +64,7 @@ impl<F: Flash, T: Tune, E: Pick> State<F, T, E> {
     // The history has the call's entry, and the event is over.
     fn answer(&mut self, caller: Caller, number: u32, op: &Op, reply: &Reply)
         requires spare { 0 < spare_calls self.old }
+        requires time { self.old.events ≤ last_event }
         ensures { self.new ≡ answered self.old caller number op.now reply.now }
     {
         let event = self.events;
@@ -67,7 +79,14 @@ impl<F: Flash, T: Tune, E: Pick> State<F, T, E> {
         self.events = next_number(event);
     }
 
-    fn attempt(&mut self, caller: Caller, number: u32, op: &Op) -> Turn {
+    // A call that isn't refused at once.
+    fn attempt(&mut self, caller: Caller, number: u32, op: &Op) -> Turn
+        requires sound { IsCoreSound self.old }
+        requires on { (flash_of self.old.hierarchy).on ≡ true }
+        requires spare { 0 < spare_calls self.old }
+        requires asked { refusal self.old.opening.pages self.old.events op.now ≡ None }
+        ensures { IsAttempt T.answers self.old caller number op.now result self.new }
+    {
         let position = self.history.len();
         match self.hierarchy.access(op, position) {
             Access::Served(reply, side) => self.serve(caller, number, op, reply, side),
@@ -75,7 +94,22 @@ impl<F: Flash, T: Tune, E: Pick> State<F, T, E> {
         }
     }
 
-    fn serve(&mut self, caller: Caller, number: u32, op: &Op, reply: Reply, side: Side) -> Turn {
+    // A call that this side served is counted and answered.
+    fn serve(&mut self, caller: Caller, number: u32, op: &Op, reply: Reply, side: Side) -> Turn
+        requires spare { 0 < spare_calls self.old }
+        requires time { self.old.events ≤ last_event }
+        requires page { page_asked op.now < length self.old.hierarchy.policy.counters }
+        requires accesses { self.old.hierarchy.policy.accesses < 2 ^ 63 }
+        requires hits { self.old.hierarchy.policy.hits < 2 ^ 63 }
+        requires few { self.old.tally.device + self.old.tally.host < 2 ^ 63 }
+        ensures turn { result ≡ Served reply }
+        ensures policy { PolicyAfter side (page_asked op.now) T.answers self.old.hierarchy.policy
+            self.new.hierarchy.policy }
+        ensures core { self.new ≡ record (answered self.old caller number op.now reply) {
+          tally = served_by side self.old.tally;
+          hierarchy = record self.old.hierarchy { policy = self.new.hierarchy.policy };
+        } }
+    {
         self.hierarchy.count_access(side, page_asked(op));
         self.tally.serve(side);
         self.answer(caller, number, op, &reply);
@@ -83,7 +117,14 @@ impl<F: Flash, T: Tune, E: Pick> State<F, T, E> {
     }
 
     // One step for a call that missed this page.
-    fn miss(&mut self, caller: Caller, number: u32, op: &Op, page: PageNo) -> Turn {
+    fn miss(&mut self, caller: Caller, number: u32, op: &Op, page: PageNo) -> Turn
+        requires sound { IsCoreSound self.old }
+        requires on { (flash_of self.old.hierarchy).on ≡ true }
+        requires spare { 0 < spare_calls self.old }
+        requires time { self.old.events < last_event }
+        requires missed { IsMissed op.now page self.old.hierarchy }
+        ensures { IsMissStep page self.old caller number op.now result self.new }
+    {
         let action = self.hierarchy.miss_action(op, page);
         match self.hierarchy.perform(action) {
             Progress::Did(what) => {
@@ -97,11 +138,13 @@ impl<F: Flash, T: Tune, E: Pick> State<F, T, E> {
     }
 }
 
-// The page of a load or a store.
-fn page_asked(op: &Op) -> PageNo {
+// The page that a call names.
+fn page_asked(op: &Op) -> PageNo
+    ensures { result.0 ≡ page_asked op.now }
+{
     match op {
-        Op::Load { at, len: _ } => PageNo(*at / 4096),
-        Op::Store { at, bytes: _ } => PageNo(*at / 4096),
+        Op::Load { at, len: _ } => PageNo(*at / PAGE_BYTES as u32),
+        Op::Store { at, bytes: _ } => PageNo(*at / PAGE_BYTES as u32),
         Op::Verify => PageNo(0),
         Op::Mark {
             page,
