@@ -26,3 +26,5 @@ pub mod SeenRoom
 pub mod SeenSeals
 pub mod SeenSteps
 pub mod StoreCalls
+pub mod Promising
+pub mod Shapes

@@ -1,5 +1,5 @@
 -- A seal of the flush that waits, as a device sees it.
-use Rattle.std.proofs.Common.{◌≡◌, ◌≢◌, ◌<◌, ℕ, Bool, true, false, List, length, set, Option, None, Some, inl, inr, refl, sym, ap, subst, ◌∙◌, arith, length-set, get_or-set_same, get_or-set_other}
+use Rattle.std.proofs.Common.{◌≡◌, ◌<◌, ℕ, Bool, true, false, List, length, set, Option, None, Some, inl, inr, refl, sym, ap, ◌∙◌, length-set, get_or-set_same, get_or-set_other}
 use Rattle.std.specs.Prelude.{Result, Ok, Err, IfErr, IfOk, IfSome, if◌then◌else◌, is_some, ◌==◌}
 use Rattle.std.specs.Int.{bit_at}
 use Rattle.std.proofs.Math.ListN.{get_or}
@@ -7,16 +7,14 @@ use Rattle.std.proofs.lemmas.Bool.{cases_Bool, cases_eq}
 use Rattle.std.proofs.lemmas.List.{get_or-map, same_lists}
 use Rattle.ff_base.specs.declared.numbers.PageNo.{PageNo}
 use Rattle.ff_flash.proofs.SealedCells.{closed_within}
-use Rattle.ff_flash.specs.Cells.{Cell, Seals, cell_after, cell_at, cell_bytes, closed, erased, seal, sealed, sealed_cell, spoiled}
+use Rattle.ff_flash.specs.Cells.{Cell, cell_after, cell_at, cell_bytes, closed, erased, seal, sealed, sealed_cell, spoiled}
 use Rattle.ff_flash.specs.Injected.{stop_of}
 use Rattle.ff_flash.specs.declared.flash.FlashStop.{FlashStop}
 use Rattle.ff_flash.specs.declared.flash.FlashStop.TheVariants.{Failed, Off}
 use Rattle.ff_flash.specs.declared.injected.Injected.TheVariants.{Cut}
 use Rattle.ff_gc.proofs.Retaining.{cell_at-set}
-use Rattle.ff_gc.specs.Steps.{operation_of}
-use Rattle.ff_gc.specs.World.{mapped_bytes, page_bytes}
-use Rattle.ff_map.proofs.Lookups.{mapping_of-with_mapping_other}
-use Rattle.ff_map.specs.PageMap.{mapping_of, with_mapping, MapView}
+use Rattle.ff_gc.specs.World.{mapped_bytes}
+use Rattle.ff_map.specs.PageMap.{MapView}
 use Rattle.ff_map.specs.declared.places.Mapping.{Mapping}
 use Rattle.ff_store.proofs.Settling.{pending_in}
 use Rattle.ff_store.specs.Calls.{IsPlaced, MatchSealed, SameBytes, SealsPage, new_mapping}
@@ -24,7 +22,7 @@ use Rattle.ff_store.specs.PageStore.{IsStoreSound, PageStoreView, spare_of}
 use Rattle.ff_store.specs.declared.pending.Pending.{Pending}
 use Rattle.ff_store.specs.declared.store.FlushStep.{FlushStep}
 use Rattle.ff_store.specs.declared.store.FlushStep.TheVariants.{Collected, Programmed, Sealed}
-use Rattle.ff_device.specs.StoreState.{PendingFlush, bytes_at, flush_at, seen_of}
+use Rattle.ff_device.specs.StoreState.{bytes_at, flush_at, seen_of}
 use Rattle.ff_device.specs.StoreSteps.{CallsOnce, SealsFlush, StoresPage}
 use Rattle.ff_device.proofs.SeenPages.{length-pages, pages_same}
 use Rattle.ff_device.proofs.StoreCalls.{as_many_pages}

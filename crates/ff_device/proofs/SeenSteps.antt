@@ -1,34 +1,27 @@
 -- The steps of a store, as a device sees them.
-use Rattle.std.proofs.Common.{◌≡◌, ◌≢◌, ◌<◌, ℕ, Bool, true, false, List, length, set, Option, None, Some, inl, inr, refl, sym, ap, subst, ◌∙◌, arith, length-set, get_or-set_same, get_or-set_other}
+use Rattle.std.proofs.Common.{◌≡◌, ◌≢◌, ◌<◌, ℕ, true, false, List, Option, None, Some, inl, inr, refl, sym, ap, ◌∙◌}
 use Rattle.std.specs.Option.{is_some}
-use Rattle.std.specs.Prelude.{Result, Ok, Err, IfErr, IfOk, IfSome, IsSome, MatchOption, if◌then◌else◌}
-use Rattle.std.proofs.Math.ListN.{get_or}
-use Rattle.std.proofs.lemmas.Bool.{cases_Bool, cases_eq}
-use Rattle.std.proofs.lemmas.List.{get_or-map, same_lists}
+use Rattle.std.specs.Prelude.{Result, Ok, Err, MatchOption, option_map}
+use Rattle.std.proofs.lemmas.Bool.{cases_Bool}
 use Rattle.ff_base.specs.declared.numbers.PageNo.{PageNo}
 use Rattle.ff_base.specs.declared.numbers.Ppn.{Ppn}
-use Rattle.ff_flash.proofs.SealedCells.{closed_within}
-use Rattle.ff_flash.specs.Cells.{Cell, cell_after, cell_at, cell_bytes, closed, erased, sealed, sealed_cell, spoiled}
+use Rattle.ff_flash.specs.Cells.{Cell, cell_bytes}
 use Rattle.ff_flash.specs.declared.flash.FlashStop.{FlashStop}
-use Rattle.ff_flash.specs.declared.flash.FlashStop.TheVariants.{Failed, Off}
-use Rattle.ff_gc.specs.Steps.{operation_of}
-use Rattle.ff_gc.proofs.Retaining.{cell_at-set}
-use Rattle.ff_gc.specs.World.{mapped_bytes, page_bytes}
+use Rattle.ff_flash.specs.declared.flash.FlashStop.TheVariants.{Off}
+use Rattle.ff_gc.specs.World.{page_bytes}
 use Rattle.ff_gc.specs.declared.collector.GcStep.{GcStep}
 use Rattle.ff_map.specs.PageMap.{mapping_of, place_of}
 use Rattle.ff_map.specs.declared.places.Mapping.{Mapping}
 use Rattle.ff_store.proofs.Basics.{reads_same}
-use Rattle.ff_store.proofs.Settling.{pending_in}
-use Rattle.ff_store.specs.Calls.{CollectsFor, Fetches, Flushes, IsPlaced, IsProgrammed, MatchSealed, ProgramsPage, SameBytes, SealsPage, collected, collects_flush, new_mapping, programs_flush}
+use Rattle.ff_store.specs.Calls.{Fetches, Flushes, IsProgrammed, collected, collects_flush, programs_flush}
 use Rattle.ff_store.specs.Left.{left_of}
-use Rattle.ff_store.specs.PageStore.{IsStoreSound, PageStoreView, spare_of}
+use Rattle.ff_store.specs.PageStore.{PageStoreView}
 use Rattle.ff_store.specs.declared.pending.Pending.{Pending}
 use Rattle.ff_store.specs.declared.store.FlushStep.{FlushStep}
 use Rattle.ff_store.specs.declared.store.FlushStep.TheVariants.{Collected, Programmed, Sealed}
-use Rattle.ff_device.specs.StoreState.{PendingFlush, bytes_at, flush_at, seen_of, stored_bytes}
-use Rattle.ff_device.specs.StoreSteps.{CallsOnce, MakesFlushStep, SealsFlush, StoresPage}
-use Rattle.ff_device.proofs.SeenPages.{length-pages, pages_same, seen_bytes}
-use Rattle.ff_device.proofs.StoreCalls.{as_many_pages}
+use Rattle.ff_device.specs.StoreState.{bytes_at, flush_at, is_stored, seen_of, stored_bytes}
+use Rattle.ff_device.specs.StoreSteps.{MakesFlushStep}
+use Rattle.ff_device.proofs.SeenPages.{seen_bytes, stored_at}
 
 no_flush : (cells : List Cell) (waits : Option Pending) → flush_at cells waits ≡ None → waits ≡ None
 no_flush cells None is = refl
@@ -82,6 +75,34 @@ pub fetched_same : (old new : PageStoreView) (page : PageNo) (before after : Lis
 fetched_same old new page before after result off mapped = elim (cases_Bool old.world.flash.on) [
   | inl on ↦ place_same old new (place_of old.world.places page) before after result (mapped on)
   | inr down ↦ seen_same old new (off down).1
+]
+
+unmapped_by : (cells : List Cell) (m : Option Mapping) → is_some (bytes_at cells m) ≡ false
+    → option_map (λ (x : Mapping). x.at) m ≡ None
+unmapped_by cells None none = refl
+unmapped_by cells (Some m) none = absurd (cc)
+
+unmapped_place : (s : PageStoreView) (page : PageNo) → is_stored (seen_of s) page.0 ≡ false → place_of s.world.places page ≡ None
+unmapped_place s page none =
+    unmapped_by s.world.flash.cells (mapping_of s.world.places page)
+    (ap (λ (o : Option (List ℕ)). is_some o) (sym (stored_at s page.0)) ∙ none)
+
+place_none : (old new : PageStoreView) (place : Option Ppn) (before after : List ℕ)
+    (result : Result (Unit {0}) FlashStop) → place ≡ None
+    → MatchOption place ((new ≡ old) × (result ≡ Ok tt)) (λ at. Fetches old at before result after new) → new ≡ old
+place_none old new None before after result none m = m.0
+place_none old new (Some at) before after result none m = absurd (cc)
+
+-- a page that isn't mapped is fetched without a call of the flash
+pub fetched_unmapped : (old new : PageStoreView) (page : PageNo) (before after : List ℕ)
+    (result : Result (Unit {0}) FlashStop)
+    → (old.world.flash.on ≡ false → (result ≡ Err Off) × (new ≡ old))
+    → (old.world.flash.on ≡ true → MatchOption (place_of old.world.places page) ((new ≡ old) × (result ≡ Ok tt))
+    (λ at. Fetches old at before result after new))
+    → is_stored (seen_of old) page.0 ≡ false → new ≡ old
+fetched_unmapped old new page before after result off mapped none = elim (cases_Bool old.world.flash.on) [
+  | inl on ↦ place_none old new (place_of old.world.places page) before after result (unmapped_place old page none) (mapped on)
+  | inr down ↦ (off down).1
 ]
 
 -- a step of a flush

@@ -1,14 +1,10 @@
 -- What one call of the store makes of its power, its counts and its sizes.
-use Rattle.std.proofs.Common.{◌≡◌, ◌≤◌, ◌+◌, ℕ, Bool, true, false, length, Option, None, Some, inl, inr, refl, sym, ap, subst, ◌∙◌, arith}
-use Rattle.std.specs.Prelude.{Result, Ok, Err}
+use Rattle.std.proofs.Common.{◌≡◌, ◌+◌, Bool, true, false, length, Option, None, Some, inl, inr, refl, sym, ap, ◌∙◌, arith}
 use Rattle.std.proofs.lemmas.Bool.{cases_Bool}
 use Rattle.ff_flash.specs.FlashState.{FlashState, Operates}
-use Rattle.ff_flash.specs.Injected.{stop_of}
 use Rattle.ff_flash.specs.declared.flash.FlashStop.{FlashStop}
 use Rattle.ff_flash.specs.declared.flash.FlashStop.TheVariants.{Failed, Off}
 use Rattle.ff_gc.specs.Steps.{Takes, made, rested}
-use Rattle.ff_gc.specs.World.{World}
-use Rattle.ff_store.specs.Calls.{IsCall}
 use Rattle.ff_store.specs.PageStore.{PageStoreView}
 use Rattle.ff_device.specs.StoreState.{seen_of}
 use Rattle.ff_device.specs.StoreSteps.{CallsOnce, Powers, SameLimits}

@@ -1,7 +1,6 @@
 -- Each row of a step of work is what a device of lines promises.
 use Rattle.std.proofs.Common.{◌≡◌, ◌<◌, inl, inr, ℕ, ◌+◌, ◌%◌, true, false, List, length, refl, sym, ap, ◌∙◌, arith, Option, Some, None, get_or-set_same}
 use Rattle.std.specs.Option.{is_none, is_some}
-use Rattle.std.specs.Prelude.{option_map}
 use Rattle.std.proofs.Math.Nat.{mod-lt}
 use Rattle.std.proofs.lemmas.Bool.{cases_Bool, eq-eqb}
 use Rattle.ff_base.specs.declared.numbers.PageNo.{PageNo}
@@ -265,7 +264,7 @@ works_row page Off old new w row powers =
 -- no way may give way
 no_way_keeps : (page : ℕ) (result : Work) (old new : Parts) → NoWayRow page result old new → SameLimits old.store new.store
     → Powers (stop_of_work result) old.store new.store → KeepsLines (lines_of old) (lines_of new)
-no_way_keeps page Stepped old new n same powers = drained_keeps old new n.1
+no_way_keeps page Stepped old new n same powers = drained_keeps old new n.drained
 no_way_keeps page (Pinned named) old new n same powers = keeps_lines (Pinned named) old new (same_keeps old new n.1) same powers
 no_way_keeps page Ready old new n same powers = absurd n
 no_way_keeps page Failed old new n same powers = absurd n
@@ -286,9 +285,9 @@ no_way_works : (page : ℕ) (result : Work) (old new : Parts) → Working page o
     → Powers (stop_of_work result) old.store new.store → Works page result (lines_of old) (lines_of new)
 no_way_works page Stepped old new w n idle full none powers =
     let still : held new.cache.slots page ≡ None =
-    none_of (held new.cache.slots page) (n.1.residence.resident page ∙ absent_no old page w.absent) in (
+    none_of (held new.cache.slots page) (n.drained.residence.resident page ∙ absent_no old page w.absent) in (
       absent_no old page w.absent,
-      drained_falls old new page w.cache w.absent still idle full none n.0 n.2 n.1.lines.posts n.3,
+      drained_falls old new page w.cache w.absent still idle full none n.unpinned n.frames n.drained.lines.posts n.store,
       record { was = w.on; on = powers.on ∙ w.on; faults = powers.faults },
     )
 no_way_works page (Pinned named) old new w n idle full none powers =
@@ -360,14 +359,7 @@ pub empty_goes : (page slot : ℕ) (old : Parts) → IsCacheSound old.cache → 
     → ((cache_slot_at old.cache.slots slot).dirty ≡ false) × (may_go old.window.posts (cache_slot_at old.cache.slots slot) ≡ true)
 empty_goes page slot old cache idle e = let p = empty_place page slot old cache idle e in (p.clean, p.goes)
 
--- whether a flush waits
-pub pending_some : (page : Option PageNo) (waits : Option PendingFlush) → option_map (λ p. p.0) page ≡ option_map (λ f. f.page) waits
-    → is_some page ≡ is_some waits
-pending_some None None same = refl
-pending_some None (Some flush) same = absurd (cc)
-pending_some (Some page) None same = absurd (cc)
-pending_some (Some page) (Some flush) same = refl
-
+-- no flush waits
 pub pending_none : (waits : Option PendingFlush) → is_some waits ≡ false → waits ≡ None
 pending_none None is = refl
 pending_none (Some flush) is = absurd (cc)

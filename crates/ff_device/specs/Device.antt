@@ -5,6 +5,7 @@ use Rattle.ff_lines.specs.DeviceState.{DeviceState}
 use Rattle.ff_store.specs.PageStore.{PageStoreView}
 use Rattle.ff_window.specs.Window.{WindowView}
 use Rattle.ff_device.specs.Parts.{is_pinned, is_resident, is_written, line_below, Parts}
+use Rattle.ff_device.specs.declared.device.DeviceOwn.{DeviceOwn}
 use Rattle.ff_device.specs.Steps.{most_steps, steps_to}
 use Rattle.ff_device.specs.StoreState.{seen_of}
 
@@ -13,6 +14,15 @@ pub record DeviceView : Type 0 where
   pub store : PageStoreView
   pub cache : CacheView
   pub window : WindowView
+
+-- what the calls on lines leave
+abbrev pub own_of : DeviceView → DeviceOwn PageStoreView
+own_of device = record {
+  store = device.store;
+  sets = device.cache.sets;
+  ways = device.cache.ways;
+  room = device.window.room;
+}
 
 -- the parts, with the store as it is seen
 abbrev pub parts_of : DeviceView → Parts

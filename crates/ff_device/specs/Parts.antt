@@ -16,6 +16,12 @@ pub record Parts : Type 0 where
   pub cache : CacheView
   pub window : WindowView
 
+-- the sizes of the cache and of the window are as before
+pub record SameShape (old new : Parts) : Type 0 where
+  pub sets : new.cache.sets ≡ old.cache.sets
+  pub ways : new.cache.ways ≡ old.cache.ways
+  pub room : new.window.room ≡ old.window.room
+
 -- the slot that holds a page
 abbrev pub cached : Parts → ℕ → Option Slot
 cached parts page = held parts.cache.slots page

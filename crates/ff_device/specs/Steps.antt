@@ -1,9 +1,9 @@
 -- How many steps of work a page may still take until it is resident.
-use Rattle.std.specs.Prelude.{ℕ, suc, ◌+◌, ◌-◌, ◌≡◌, ◌&&◌, ◌||◌, Bool, true, false, not, List, if◌then◌else◌, Option, None, Some}
+use Rattle.std.specs.Prelude.{ℕ, suc, ◌+◌, ◌&&◌, ◌||◌, Bool, false, not, List, if◌then◌else◌, Option, None, Some}
 use Rattle.std.specs.Option.{is_some}
 use Rattle.ff_base.specs.declared.numbers.PageNo.{PageNo}
-use Rattle.ff_cache.specs.Cache.{first_of, is_full_set, values_of, way_at, IsInSet}
-use Rattle.ff_cache.specs.Slots.{holds, cache_slot_at}
+use Rattle.ff_cache.specs.Cache.{is_full_set, values_of, way_at}
+use Rattle.ff_cache.specs.Slots.{holds}
 use Rattle.ff_cache.specs.declared.slot.Slot.{Slot}
 use Rattle.ff_lines.specs.Posts.{waits_in}
 use Rattle.ff_lines.specs.declared.post.Post.{Post}

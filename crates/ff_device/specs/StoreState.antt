@@ -1,5 +1,5 @@
 -- The page store as a device sees it: bytes by page, and the flush that is to be sealed.
-use Rattle.std.specs.Prelude.{ℕ, ◌+◌, ◌*◌, ◌<◌, ◌≤◌, ◌≡◌, ◌^◌, Bool, true, false, List, length, map, Option, None, Some, option_map, slice_index_or, unwrap_or}
+use Rattle.std.specs.Prelude.{ℕ, ◌+◌, ◌*◌, ◌<◌, ◌≤◌, ◌≡◌, ◌^◌, Bool, List, length, map, Option, None, Some, option_map, slice_index_or, unwrap_or}
 use Rattle.std.specs.Option.{is_some}
 use Rattle.ff_base.specs.Page.{blank_page}
 use Rattle.ff_flash.specs.Cells.{Cell, cell_at, cell_bytes}

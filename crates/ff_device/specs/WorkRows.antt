@@ -15,7 +15,7 @@ use Rattle.ff_device.specs.Device.{lines_of}
 use Rattle.ff_device.specs.Draining.{SameFrames}
 use Rattle.ff_device.specs.Parts.{Parts}
 use Rattle.ff_device.specs.Steps.{chosen_way, may_go_at}
-use Rattle.ff_device.specs.StoreState.{stored_bytes}
+use Rattle.ff_device.specs.StoreState.{is_stored, stored_bytes}
 use Rattle.ff_device.specs.StoreSteps.{StoresPage}
 
 -- how an answer stopped, if it did
@@ -37,7 +37,7 @@ pub record HasSealed (old new : Parts) : Type 0 where
   pub cache : Changes page slot_flushed old.cache new.cache
   pub window : new.window ≡ old.window
 
--- a page was fetched into a slot
+-- a page was fetched into a slot, without a call of the flash where it isn't mapped
 pub record IsFetched (page slot : ℕ) (old new : Parts) : Type 0 where
   pub cache : new.cache ≡ record old.cache {
     slots = slice_set old.cache.slots slot (slot_filled page (stored_bytes old.store page));
@@ -46,6 +46,7 @@ pub record IsFetched (page slot : ℕ) (old new : Parts) : Type 0 where
   pub window : new.window ≡ old.window
   pub pages : new.store.pages ≡ old.store.pages
   pub pending : new.store.pending ≡ old.store.pending
+  pub unmapped : is_stored old.store page ≡ false → new.store ≡ old.store
 
 -- the bytes of a slot were programmed
 pub record HasProgrammed (slot : ℕ) (old new : Parts) : Type 0 where
@@ -73,6 +74,14 @@ pub record HasUnpinned (page : ℕ) (old : Parts) : Type 0 where
   pub way : ℕ
   pub within : way < old.cache.ways
   pub unpinned : (way_at old.cache page way).pinned ≡ false
+
+-- a way isn't pinned, and the window was drained
+pub record HasDrained (page : ℕ) (old new : Parts) : Type 0 where
+  pub unpinned : HasUnpinned page old
+  pub drained : IsDrained (lines_of old) (lines_of new)
+  pub frames : SameFrames old.cache new.cache
+  pub room : new.window.room ≡ old.window.room
+  pub store : new.store ≡ old.store
 
 -- the way that gives way was chosen among those that may, and the values of the set alone may have been raised for it
 pub record IsRaised (page slot : ℕ) (old new : Parts) : Type 0 where
@@ -107,9 +116,7 @@ FlushRow slot (Pinned other) old new = ⊥
 
 -- no way of the page's set may give way
 abbrev pub NoWayRow : ℕ → Work → Parts → Parts → Type 0
-NoWayRow page Stepped old new =
-    HasUnpinned page old × IsDrained (lines_of old) (lines_of new)
-    × SameFrames old.cache new.cache × (new.store ≡ old.store)
+NoWayRow page Stepped old new = HasDrained page old new
 NoWayRow page (Pinned named) old new = IsPinnedSet page named old × (new ≡ old)
 NoWayRow page Ready old new = ⊥
 NoWayRow page Failed old new = ⊥

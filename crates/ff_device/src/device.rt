@@ -57,6 +57,15 @@ pub struct DeviceParts<F: Flash> {
     pub window: Window,
 }
 
+/// What the calls on lines leave of a device, for contracts alone: its store, and the sizes of its cache and window.
+#[derive(Drop)]
+pub struct DeviceOwn<S> {
+    pub store: S,
+    pub sets: u32,
+    pub ways: u32,
+    pub room: u32,
+}
+
 impl<F: Flash> Device<F> {
     /// A device of parts of one geometry, with nothing in flight. For want of memory the parts are handed back.
     #[tactic(auto, using(crate::proofs::Beginning::begins))]
@@ -104,6 +113,12 @@ impl<F: Flash> Device<F> {
         ensures { result.now ≡ self.now.store }
     {
         &self.store
+    }
+
+    pub fn window(&self) -> &Window
+        ensures { result.now ≡ self.now.window }
+    {
+        &self.window
     }
 
     /// The store, the cache and the window.

@@ -25,7 +25,7 @@ pub fn store_known<F: Flash>(store: &PageStore<F>)
 }
 
 // Reads a page. One that isn't mapped is zeros.
-#[tactic(auto, using(crate::proofs::SeenSteps::fetched_bytes, crate::proofs::SeenSteps::fetched_same))]
+#[tactic(auto, using(crate::proofs::SeenSteps::fetched_bytes, crate::proofs::SeenSteps::fetched_same, crate::proofs::SeenSteps::fetched_unmapped))]
 pub fn fetch<F: Flash>(
     store: &mut PageStore<F>,
     page: PageNo,
@@ -35,6 +35,7 @@ pub fn fetch<F: Flash>(
     ensures bytes { OnOk result (into.new ≡ stored_bytes (seen_of store.old) page.0) }
     ensures pages { (seen_of store.new).pages ≡ (seen_of store.old).pages }
     ensures pending { (seen_of store.new).pending ≡ (seen_of store.old).pending }
+    ensures unmapped { is_stored (seen_of store.old) page.0 ≡ false → store.new ≡ store.old }
     ensures calls { CallsOnce store.old (stop_of result) store.new }
 {
     store.fetch(page, into)

@@ -1,6 +1,6 @@
 // What a power loss leaves of the posts.
 ghost use Rattle.std.specs.Prelude.{◌≡◌, ℕ, [], drop, take, length};
-ghost use Rattle.ff_device.specs.Device.{parts_of};
+ghost use Rattle.ff_device.specs.Device.{own_of, parts_of};
 ghost use Rattle.ff_device.specs.Parts.{is_resident, line_below};
 ghost use Rattle.ff_lines.specs.PageSets.{SameSet};
 ghost use Rattle.ff_lines.specs.Posts.{laid};
@@ -24,6 +24,7 @@ impl<F: Flash> Device<F> {
     fn lose_window(&mut self) -> Option<u32>
         ensures lost { result ≡ first_position self.old.window.posts }
         ensures posts { self.new.window.posts ≡ [] }
+        ensures room { self.new.window.room ≡ self.old.window.room }
         ensures store { self.new.store ≡ self.old.store }
         ensures cache { self.new.cache ≡ self.old.cache }
     {
@@ -37,10 +38,11 @@ impl<F: Flash> Device<F> {
     pub fn arrive(&mut self, count: u32) -> Option<u32>
         ensures lost { result ≡ first_position (drop count self.old.window.posts) }
         ensures below { (page line : ℕ) → line_below (parts_of self.new) page line
-            ≡ laid page line (take count self.old.window.posts) (line_below (parts_of self.old) page line) }
+            ≡ laid page line (take count self.old.window.posts)
+            (line_below (parts_of self.old) page line) }
         ensures posts { self.new.window.posts ≡ [] }
         ensures resident { SameSet (is_resident (parts_of self.old)) (is_resident (parts_of self.new)) }
-        ensures store { self.new.store ≡ self.old.store }
+        ensures own { own_of self.new ≡ own_of self.old }
     {
         let some = count.min(self.window.len());
         self.drain_first(some);

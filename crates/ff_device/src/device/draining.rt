@@ -1,6 +1,6 @@
 // Posts that are laid over their pages' slots.
 ghost use Rattle.std.specs.Prelude.{◌≡◌, ◌≤◌, ◌<◌, min, length, nat_lt};
-ghost use Rattle.ff_device.specs.Device.{lines_in};
+ghost use Rattle.ff_device.specs.Device.{lines_in, own_of};
 ghost use Rattle.ff_device.specs.Draining.{DrainsFirst, SameFrames};
 ghost use Rattle.ff_lines.specs.DeviceState.{IsDrained};
 
@@ -21,9 +21,8 @@ impl<F: Flash> Device<F> {
     pub fn drain_one(&mut self) -> bool
         ensures found { result ≡ nat_lt 0 (length self.old.window.posts) }
         ensures drained { DrainsFirst 1 (lines_in self.old) (lines_in self.new) }
-        ensures store { self.new.store ≡ self.old.store }
+        ensures own { own_of self.new ≡ own_of self.old }
         ensures frames { SameFrames self.old.cache self.new.cache }
-        ensures window { self.new.window.room ≡ self.old.window.room }
     {
         match self.window.pop() {
             Some(post) => {
@@ -39,9 +38,8 @@ impl<F: Flash> Device<F> {
     #[tactic(auto, using(crate::proofs::Drained::drains_more, crate::proofs::Drained::drains_none, crate::proofs::Drained::frames_more, crate::proofs::Drained::frames_same))]
     pub(super) fn drain_first(&mut self, count: u32)
         ensures drained { DrainsFirst count (lines_in self.old) (lines_in self.new) }
-        ensures store { self.new.store ≡ self.old.store }
+        ensures own { own_of self.new ≡ own_of self.old }
         ensures frames { SameFrames self.old.cache self.new.cache }
-        ensures window { self.new.window.room ≡ self.old.window.room }
     {
         for _ in 0..count {
             self.drain_one();
@@ -52,9 +50,8 @@ impl<F: Flash> Device<F> {
     #[tactic(auto, using(crate::proofs::Drained::drains_all))]
     pub(super) fn drain_window(&mut self)
         ensures drained { IsDrained (lines_in self.old) (lines_in self.new) }
-        ensures store { self.new.store ≡ self.old.store }
+        ensures own { own_of self.new ≡ own_of self.old }
         ensures frames { SameFrames self.old.cache self.new.cache }
-        ensures window { self.new.window.room ≡ self.old.window.room }
     {
         let count = self.window.len();
         self.drain_first(count);

@@ -2,17 +2,19 @@
 ghost use Rattle.std.specs.Prelude.{◌≡◌, ◌≤◌, ◌<◌, ◌+◌, ◌++◌, ◌∷◌, ◌==◌, ◌^◌, ℕ, [], true, false, length, drop, if◌then◌else◌};
 ghost use Rattle.std.specs.Option.{is_some};
 ghost use Rattle.ff_device.specs.StoreState.{seen_of};
-ghost use Rattle.ff_device.specs.Device.{lines_in, parts_of};
+ghost use Rattle.ff_device.specs.Device.{lines_in, own_of, parts_of};
 ghost use Rattle.ff_device.specs.Changes.{post_of};
+ghost use Rattle.ff_device.specs.Parts.{SameShape};
 ghost use Rattle.ff_device.specs.Draining.{HitIf};
 ghost use Rattle.ff_lines.specs.Posts.{IsPost};
 ghost use Rattle.ff_lines.specs.DeviceState.{HasRoom, IsDevice, IsDrained, IsPinned, IsPosted, line_at};
-ghost use Rattle.ff_device.specs.WorkRows.{IsWorkStep};
+ghost use Rattle.ff_device.specs.WorkRows.{stop_of_work, IsWorkStep};
+ghost use Rattle.ff_device.specs.StoreSteps.{CallsOnce};
 ghost use Rattle.ff_lines.specs.Works.{IsIdle, KeepsLines, Works};
 
 use super::slots::set_pin;
-use crate::Device;
 use crate::store_steps::store_known;
+use crate::{Device, DeviceOwn};
 use ff_base::{LINE_BYTES, PageNo};
 use ff_flash::Flash;
 use ff_lines::{LineDevice, Post, Work};
@@ -40,7 +42,7 @@ impl<F: Flash> Device<F> {
         requires line { line < 64 }
         ensures bytes { result ≡ line_at (lines_in self.old) page.0 line }
         ensures drained { IsDrained (lines_in self.old) (lines_in self.new) }
-        ensures store { self.new.store ≡ self.old.store }
+        ensures own { own_of self.new ≡ own_of self.old }
         ensures hit { HitIf hit page.0 self.old.cache self.new.cache.values }
     {
         self.drain_window();
@@ -53,8 +55,9 @@ impl<F: Flash> Device<F> {
         requires room { HasRoom (lines_in self.old) post.page.0 }
         ensures posted { IsPosted post (lines_in self.old) (lines_in self.new) }
         ensures full { self.new.window.posts
-            ≡ drop (if length self.old.window.posts == self.old.window.room then 1 else 0) self.old.window.posts ++ post ∷ [] }
-        ensures store { self.new.store ≡ self.old.store }
+            ≡ drop (if length self.old.window.posts == self.old.window.room then 1 else 0)
+            self.old.window.posts ++ post ∷ [] }
+        ensures own { own_of self.new ≡ own_of self.old }
         ensures hit { HitIf (is_some post.position) post.page.0 self.old.cache self.new.cache.values }
     {
         self.make_room();
@@ -65,7 +68,7 @@ impl<F: Flash> Device<F> {
     fn change_pin(&mut self, page: PageNo, on: bool)
         requires { (lines_in self.old).resident page.0 ≡ true }
         ensures pinned { IsPinned page.0 on (lines_in self.old) (lines_in self.new) }
-        ensures store { self.new.store ≡ self.old.store }
+        ensures own { own_of self.new ≡ own_of self.old }
         ensures values { self.new.cache.values ≡ self.old.cache.values }
     {
         self.cache.known();
@@ -76,13 +79,13 @@ impl<F: Flash> Device<F> {
 impl<F: Flash> LineDevice for Device<F> {
     ghost use Rattle.std.specs.Prelude.{◌≡◌, ◌≤◌, ◌<◌, ◌+◌, ◌++◌, ◌∷◌, ◌==◌, ◌^◌, ℕ, [], true, false, length, drop, if◌then◌else◌};
     ghost use Rattle.std.specs.Option.{is_some};
-    ghost use Rattle.ff_device.specs.Device.{lines_in, parts_of};
+    ghost use Rattle.ff_device.specs.Device.{lines_in, own_of, parts_of};
 
-    type Own = PageStore<F>;
+    type Own = DeviceOwn<PageStore<F>>;
 
     ghost state = { lines_in };
 
-    ghost own = { λ d. d.store };
+    ghost own = { own_of };
 
     fn resident(&self, page: PageNo) -> bool {
         self.lines_known();
@@ -94,7 +97,7 @@ impl<F: Flash> LineDevice for Device<F> {
         requires line { line < 64 }
         ensures bytes { result ≡ line_at (lines_in self.old) page.0 line }
         ensures drained { IsDrained (lines_in self.old) (lines_in self.new) }
-        ensures own { self.new.store ≡ self.old.store }
+        ensures own { own_of self.new ≡ own_of self.old }
         ensures hit { HitIf hit page.0 self.old.cache self.new.cache.values }
     {
         self.read(page, line, hit)
@@ -108,7 +111,7 @@ impl<F: Flash> LineDevice for Device<F> {
         ensures posted { IsPosted
             (record { page = page; line = line; from = from; bytes = piece.now; position = position })
             (lines_in self.old) (lines_in self.new) }
-        ensures own { self.new.store ≡ self.old.store }
+        ensures own { own_of self.new ≡ own_of self.old }
         ensures hit { HitIf (is_some position) page.0 self.old.cache self.new.cache.values }
         ensures full { self.new.window.posts
             ≡ drop (if length self.old.window.posts == self.old.window.room then 1 else 0)
@@ -125,7 +128,7 @@ impl<F: Flash> LineDevice for Device<F> {
 
     fn drain_all(&mut self)
         ensures drained { IsDrained (lines_in self.old) (lines_in self.new) }
-        ensures own { self.new.store ≡ self.old.store }
+        ensures own { own_of self.new ≡ own_of self.old }
         ensures values { self.new.cache.values ≡ self.old.cache.values }
     {
         self.drain_window();
@@ -134,13 +137,13 @@ impl<F: Flash> LineDevice for Device<F> {
     fn pin(&mut self, page: PageNo, on: bool)
         requires { (lines_in self.old).resident page.0 ≡ true }
         ensures pinned { IsPinned page.0 on (lines_in self.old) (lines_in self.new) }
-        ensures own { self.new.store ≡ self.old.store }
+        ensures own { own_of self.new ≡ own_of self.old }
         ensures values { self.new.cache.values ≡ self.old.cache.values }
     {
         self.change_pin(page, on);
     }
 
-    #[tactic(auto, using(crate::proofs::Keeping::still_keeps))]
+    #[tactic(auto, using(crate::proofs::Keeping::still_keeps, crate::proofs::StoreCalls::still_calls, crate::proofs::Shapes::step_shape, crate::proofs::Shapes::same_shape))]
     fn work(&mut self, page: PageNo) -> Work
         requires page { page.0 < length (seen_of self.old.store).pages }
         requires used { (seen_of self.old.store).used < 2 ^ 63 }
@@ -151,6 +154,8 @@ impl<F: Flash> LineDevice for Device<F> {
         ensures row { (seen_of self.old.store).on ≡ true
             → (lines_in self.old).resident page.0 ≡ false
             → IsWorkStep page.0 (parts_of self.old) result (parts_of self.new) }
+        ensures calls { CallsOnce self.old.store (stop_of_work result) self.new.store }
+        ensures shape { SameShape (parts_of self.old) (parts_of self.new) }
     {
         if !self.is_on() {
             Work::Off

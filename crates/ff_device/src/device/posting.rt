@@ -1,6 +1,6 @@
 // Reads of cached lines, posts, and the hits that both may be.
 ghost use Rattle.std.specs.Prelude.{◌≡◌, ◌≤◌, ◌<◌, ◌++◌, ◌∷◌, ◌==◌, [], true, length, if◌then◌else◌};
-ghost use Rattle.ff_device.specs.Device.{lines_in, parts_of};
+ghost use Rattle.ff_device.specs.Device.{lines_in, own_of, parts_of};
 ghost use Rattle.ff_device.specs.Draining.{DrainsFirst, HitIf, SameFrames};
 ghost use Rattle.ff_device.specs.Parts.{is_resident, line_below};
 ghost use Rattle.ff_lines.specs.DeviceState.{HasRoom, IsDrained};
@@ -51,10 +51,11 @@ impl<F: Flash> Device<F> {
     // Drains the oldest post where the window is full.
     #[tactic(auto, using(crate::proofs::Drained::drains_none, crate::proofs::Drained::frames_same))]
     pub(super) fn make_room(&mut self)
-        ensures drained { DrainsFirst (if length self.old.window.posts == self.old.window.room then 1 else 0)
+        ensures drained { DrainsFirst
+            (if length self.old.window.posts == self.old.window.room then 1 else 0)
             (lines_in self.old) (lines_in self.new) }
         ensures room { length self.new.window.posts < self.new.window.room }
-        ensures store { self.new.store ≡ self.old.store }
+        ensures own { own_of self.new ≡ own_of self.old }
         ensures frames { SameFrames self.old.cache self.new.cache }
     {
         if self.window.is_full() {

@@ -1,4 +1,4 @@
-use Rattle.std.proofs.Common.{ap, sym, ◌∙◌}
+use Rattle.std.proofs.Common.{ap, ◌∙◌}
 use Rattle.ff_flash.specs.Injected.{stop_of}
 use Rattle.ff_device.specs.Device.{DeviceView}
 use Rattle.ff_device.specs.WorkRows.{stop_of_work}

@@ -1,4 +1,4 @@
-use Rattle.std.proofs.Common.{inr, refl, sym}
+use Rattle.std.proofs.Common.{ap, inr, refl, sym}
 use Rattle.ff_device.specs.Parts.{Parts}
 use Rattle.ff_device.specs.StoreState.{seen_of}
 use Rattle.ff_device.proofs.StoreCalls.{limits_of}
@@ -25,7 +25,7 @@ invariant_of-self g c =
       clean = clean;
       goes = goes;
       idle = idle;
-      fetched = record { cache = rw (sym c.in-Ok.ensures.bytes) c.put.ensures; window = refl; pages = c.in-Ok.ensures.pages; pending = c.in-Ok.ensures.pending };
+      fetched = record { cache = rw (sym c.in-Ok.ensures.bytes) c.put.ensures; window = refl; pages = c.in-Ok.ensures.pages; pending = c.in-Ok.ensures.pending; unmapped = λ none. ap seen_of (c.in-Ok.ensures.unmapped none) };
       capacity = (limits_of _ _ _ c.in-Ok.ensures.calls).capacity;
     })
 
