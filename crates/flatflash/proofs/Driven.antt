@@ -8,8 +8,8 @@ use Rattle.std.proofs.lemmas.Bool.{eq-eqb, eqb-true}
 use Rattle.std.proofs.lemmas.List.Elements.{All-get_or}
 use Rattle.std.proofs.lemmas.List.{get_or-replicate, get_or_past, length-map, length-replicate, map-append}
 use Rattle.ff_base.specs.Geometry.{default_geometry}
-use Rattle.ff_core.specs.Core.{CoreView, due_entry, fresh_core}
-use Rattle.ff_core.specs.Record.{record_of}
+use Rattle.ff_list.specs.Core.{ListCoreView, due_entry, fresh_list_core}
+use Rattle.ff_list.specs.Record.{list_record_of}
 use Rattle.ff_model.specs.Callers.{entries_of}
 use Rattle.ff_model.specs.Legal.{IsLegal, faults_after, next_event}
 use Rattle.ff_model.specs.declared.history.Entry.{Entry}
@@ -25,13 +25,13 @@ run_at rows i row all within is =
     ap is_run is ∙ All-get_or (λ (r : Row). is_run r ≡ true) rows i row within all
 
 -- a core that has answered nothing
-pub answered-none : (spare : ℕ) → HasAnswered (fresh_core default_geometry spare 0) []
+pub answered-none : (spare : ℕ) → HasAnswered (fresh_list_core default_geometry spare 0) []
 answered-none spare =
     record { geometry = refl; opening = refl; events = refl; numbers = λ caller. refl; calls = refl }
 
 -- no caller has made a call
 pub next-none : (spare : ℕ) (numbers : List ℕ) → numbers ≡ replicate 64 0
-    → AreNextNumbers (fresh_core default_geometry spare 0) numbers
+    → AreNextNumbers (fresh_list_core default_geometry spare 0) numbers
 next-none spare numbers is = record {
   size = ap length is ∙ length-replicate {A = ℕ} 64 0;
   each = λ k within. ap (λ (l : List ℕ). get_or l k 0) is ∙ get_or-replicate 64 k 0 0 within;
@@ -72,7 +72,7 @@ run_caller (Turns kind count) run = omega arith
 run_caller (Power arrive) run = omega arith
 
 -- the numbers behind a row
-pub numbers-more : (core : CoreView) (numbers : List ℕ) (row : Row) → AreNextNumbers core numbers → is_run row ≡ true
+pub numbers-more : (core : ListCoreView) (numbers : List ℕ) (row : Row) → AreNextNumbers core numbers → is_run row ≡ true
     → AreNextNumbers (after_row core (get_or numbers (row_caller row) 0) row)
     (set numbers (row_caller row) (get_or numbers (row_caller row) 0 + 1))
 numbers-more core numbers (Turns kind count) had run = absurd (cc)
@@ -101,7 +101,7 @@ numbers-more core numbers (Call caller op) had run =
     }
 
 -- one row more was answered
-pub answered-more : (core : CoreView) (rows : List Row) (row : Row) (numbers : List ℕ) → HasAnswered core rows
+pub answered-more : (core : ListCoreView) (rows : List Row) (row : Row) (numbers : List ℕ) → HasAnswered core rows
     → length rows < 2 ^ 62 → AreNextNumbers core numbers → is_run row ≡ true
     → HasAnswered (after_row core (get_or numbers (row_caller row) 0) row) (rows ++ row ∷ [])
 answered-more core rows (Turns kind count) numbers had few next run = absurd (cc)
@@ -123,16 +123,16 @@ answered-more core rows (Call caller op) numbers had few next run =
           ∙ ap (λ (rs : List Row). rs ++ Call caller op ∷ []) had.calls;
     }
 
-pub spare-after_row : (core : CoreView) (number : ℕ) (row : Row) → 0 < core.spare_calls → is_run row ≡ true
+pub spare-after_row : (core : ListCoreView) (number : ℕ) (row : Row) → 0 < core.spare_calls → is_run row ≡ true
     → (after_row core number row).spare_calls + 1 ≡ core.spare_calls
 spare-after_row core number (Call caller op) some run = omega arith
 spare-after_row core number (Turns kind count) some run = absurd (cc)
 spare-after_row core number (Power arrive) some run = absurd (cc)
 
 -- the session that a core ends in
-pub first_session : (core : CoreView) (rows : List Row) → HasAnswered core rows → IsLegal core.opening core.entries
+pub first_session : (core : ListCoreView) (rows : List Row) → HasAnswered core rows → IsLegal core.opening core.entries
     → next_event core.opening core.entries ≡ core.events → faults_after core.opening core.entries ≡ core.opening.faults
-    → IsFirstSession (record { base = core.opening.base; account = record_of core }) rows
+    → IsFirstSession (record { base = core.opening.base; account = list_record_of core }) rows
 first_session core rows had legal next faults =
     let size : length core.entries ≡ length rows =
     sym (length-map core.entries (λ (e : Entry). Call e.caller e.op)) ∙ ap length had.calls in

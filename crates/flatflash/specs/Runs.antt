@@ -4,8 +4,8 @@ use Rattle.ff_base.specs.Geometry.{default_geometry}
 use Rattle.ff_model.specs.Callers.{AreNumbered, entries_of}
 use Rattle.ff_model.specs.Legal.{IsLegal, faults_after, next_event}
 use Rattle.ff_model.specs.declared.history.Entry.{Entry}
-use Rattle.ff_core.specs.Core.{CoreView, after_call, fresh_opening}
-use Rattle.ff_core.specs.Record.{opening_from}
+use Rattle.ff_list.specs.Core.{ListCoreView, after_call, fresh_opening}
+use Rattle.ff_list.specs.Record.{opening_of_record}
 use Rattle.ff_trace.specs.declared.row.Row.{Row}
 use Rattle.ff_trace.specs.declared.row.Row.TheVariants.{Call, Turns, Power}
 use Rattle.flatflash.specs.declared.session.Session.{Session}
@@ -30,7 +30,7 @@ abbrev pub first_other : List Row → Option ℕ
 first_other rows = position (λ row. not (is_run row)) rows
 
 -- the core after a row, which is a call of this number of its caller
-abbrev pub after_row : CoreView → ℕ → Row → CoreView
+abbrev pub after_row : ListCoreView → ℕ → Row → ListCoreView
 after_row core number (Call caller op) = after_call core caller number op
 after_row core number (Turns kind count) = core
 after_row core number (Power arrive) = core
@@ -42,13 +42,13 @@ row_caller (Turns kind count) = 0
 row_caller (Power arrive) = 0
 
 -- the numbers of the callers' next calls: how many each has made
-pub record AreNextNumbers (core : CoreView) (numbers : List ℕ) : Type 0 where
+pub record AreNextNumbers (core : ListCoreView) (numbers : List ℕ) : Type 0 where
   pub size : length numbers ≡ 64
   pub each : (caller : ℕ) → caller < 64
       → slice_index numbers caller ≡ length (entries_of caller core.entries)
 
 -- a core that started from nothing has answered these rows, one event each
-pub record HasAnswered (core : CoreView) (rows : List Row) : Type 0 where
+pub record HasAnswered (core : ListCoreView) (rows : List Row) : Type 0 where
   pub geometry : core.geometry ≡ default_geometry
   pub opening : core.opening ≡ fresh_opening default_geometry
   pub events : core.events ≡ length rows
@@ -60,7 +60,7 @@ pub record HasAnswered (core : CoreView) (rows : List Row) : Type 0 where
 -- from 0, and all of them are these rows in order
 pub record IsFirstSession (session : Session) (rows : List Row) : Type 0 where
   pub geometry : session.account.geometry ≡ default_geometry
-  pub opening : opening_from session.base session.account ≡ fresh_opening default_geometry
+  pub opening : opening_of_record session.base session.account ≡ fresh_opening default_geometry
   pub legal : IsLegal (fresh_opening default_geometry) session.account.entries
   pub events : session.account.events ≡ length session.account.entries
   pub next : next_event (fresh_opening default_geometry) session.account.entries

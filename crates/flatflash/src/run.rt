@@ -2,7 +2,7 @@
 ghost use Rattle.std.specs.Prelude.{◌≡◌, ◌≤◌, ◌<◌, ◌+◌, ℕ, [], true, length, map, replicate, slice_index, slice_set, vec_len, Ok, Some, IfOk, IfErr, IfNone, IfSome};
 ghost use Rattle.std.specs.String.{string_bytes};
 ghost use Rattle.ff_base.specs.Geometry.{default_geometry};
-ghost use Rattle.ff_core.specs.Core.{fresh_core};
+ghost use Rattle.ff_list.specs.Core.{fresh_list_core};
 ghost use Rattle.ff_trace.specs.Tally.{most_rows};
 ghost use Rattle.flatflash.specs.Ending.{IsEnd, IsRefusal, IsRunCause, ReadsRows, RunsInput};
 ghost use Rattle.flatflash.specs.Input.{source_change};
@@ -13,8 +13,8 @@ use crate::refusal::Refusal;
 use crate::session::Session;
 use crate::words::expect_schedule;
 use ff_base::{Geometry, NoMemory};
-use ff_core::{Core, Room};
 use ff_io::Source;
+use ff_list::{Core, Room};
 use ff_trace::{BadTrace, CALLERS, Row, trace};
 use std::alloc::Global;
 
@@ -127,7 +127,7 @@ fn is_run(row: &Row) -> bool
 
 // Answers the rows, of which each caller's are numbered from 0.
 fn drive_all(core: &mut Core, rows: &[Row])
-    requires fresh { core.old ≡ fresh_core default_geometry (length rows.now) 0 }
+    requires fresh { core.old ≡ fresh_list_core default_geometry (length rows.now) 0 }
     requires few { length rows.now ≤ most_rows }
     requires run { AreRun rows.now }
     ensures { HasAnswered core.new rows.now }
@@ -138,7 +138,7 @@ fn drive_all(core: &mut Core, rows: &[Row])
 
 // The same, over the numbers of the callers' next calls.
 fn drive_each(core: &mut Core, numbers: &mut [u32], rows: &[Row])
-    requires fresh { core.old ≡ fresh_core default_geometry (length rows.now) 0 }
+    requires fresh { core.old ≡ fresh_list_core default_geometry (length rows.now) 0 }
     requires numbers { numbers.old ≡ replicate 64 0 }
     requires few { length rows.now ≤ most_rows }
     requires run { AreRun rows.now }

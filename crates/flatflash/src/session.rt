@@ -1,5 +1,5 @@
 // What a run gives.
-use ff_core::Record;
+use ff_list::Record;
 use ff_model::Image;
 
 /// A session: the image that it started from, and its record.
