@@ -11,10 +11,13 @@ ghost use Rattle.ff_core.specs.Fresh.{IsFreshFlash, fresh_core};
 ghost use Rattle.ff_core.specs.Hierarchy.{flash_of};
 ghost use Rattle.ff_core.specs.Turns.{IsTurn};
 
+mod ending;
+
 use crate::fresh::{FreshBack, fresh_state};
 use crate::log::{Back, Log};
 use crate::state::State;
 use crate::turn::Turn;
+pub use ending::Ended;
 use ff_base::{Caller, Geometry};
 use ff_evict::{Pick, Picker};
 use ff_flash::Flash;
