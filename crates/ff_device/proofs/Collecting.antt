@@ -17,11 +17,13 @@ use Rattle.ff_store.specs.PageStore.{IsStoreSound, PageStoreView}
 use Rattle.ff_store.specs.declared.pending.Pending.{Pending}
 use Rattle.ff_device.specs.CollectTurn.{HasCollected, IsCollectTurn, turn_collects, turn_idle, turn_off, turn_seals, work_of}
 use Rattle.ff_device.specs.Device.{lines_in, parts_of, DeviceView}
-use Rattle.ff_device.specs.Parts.{IsDeviceSound, Parts}
+use Rattle.ff_device.specs.Parts.{is_resident, IsDeviceSound, Parts}
 use Rattle.ff_device.specs.StoreState.{flush_at, seen_of, IsStoreStateSound}
 use Rattle.ff_device.specs.StoreSteps.{CallsOnce, SameLimits}
-use Rattle.ff_device.specs.WorkRows.{SealRow, stop_of_work}
-use Rattle.ff_device.proofs.Keeping.{edited_keeps, keeps_lines, still_keeps, stopped_keeps, Keeps}
+use Rattle.ff_device.specs.WorkRows.{HasSealed, IsStopped, SealRow, stop_of_work}
+use Rattle.ff_lines.specs.PageSets.{SameSet}
+use Rattle.ff_device.proofs.Edits.{edited_resident}
+use Rattle.ff_device.proofs.Keeping.{edited_keeps, keeps_lines, same_keeps, stopped_keeps, Keeps}
 use Rattle.ff_device.proofs.Sealing.{sealing_edited, sealing_slot, Sealing}
 use Rattle.ff_device.proofs.SeenPages.{pages_same}
 use Rattle.ff_device.proofs.Stopping.{stopped_sound}
@@ -45,56 +47,95 @@ stop_same (Ok step) = refl
 stop_same (Err FailedStop) = refl
 stop_same (Err OffStop) = refl
 
--- what is known before a turn, and of the call that it made
-pub record Turning (result : Work) (old new : DeviceView) : Type 0 where
-  pub device : IsDeviceSound (parts_of old)
-  pub cache : IsCacheSound old.cache
-  pub seen : IsStoreStateSound (seen_of old.store)
-  pub store : IsStoreSound old.store
-  pub table : IsTableSound old.store.world.table
-  pub calls : CallsOnce old.store (stop_of_work result) new.store
+sealing_by : (old new : Parts) → IsDeviceSound old → IsCacheSound old.cache → IsStoreStateSound old.store
+    → SameLimits old.store new.store → (s : HasSealed old new) → Sealing s.page old new
+sealing_by old new sound cache store same s = record {
+  sound = sound;
+  cache = cache;
+  store = store;
+  seals = s.sealed;
+  ends = s.cache;
+  window = s.window;
+  capacity = same.capacity;
+}
 
-seal_keeps : (result : Work) (old new : Parts) → IsDeviceSound old → IsCacheSound old.cache → IsStoreStateSound old.store
-    → SameLimits old.store new.store → SealRow result old new → Keeps old new
-seal_keeps Stepped old new sound cache store same s =
-    let sealing : Sealing s.page old new = record {
-      sound = sound;
-      cache = cache;
-      store = store;
-      seals = s.sealed;
-      ends = s.cache;
-      window = s.window;
-      capacity = same.capacity;
-    } in
+-- a turn keeps the lines, and the slots hold the pages that they held
+record Turned (old new : Parts) : Type 0 where
+  keeps : Keeps old new
+  resident : SameSet (is_resident old) (is_resident new)
+
+stopped_turned : (old new : Parts) → IsStopped old new → Turned old new
+stopped_turned old new s = record { keeps = stopped_keeps old new s; resident = λ page. rw s.cache refl }
+
+same_turned : (old new : Parts) → new ≡ old → Turned old new
+same_turned old new same = record { keeps = same_keeps old new same; resident = λ page. rw same refl }
+
+seal_turned : (result : Work) (old new : Parts) → IsDeviceSound old → IsCacheSound old.cache → IsStoreStateSound old.store
+    → SameLimits old.store new.store → SealRow result old new → Turned old new
+seal_turned Stepped old new sound cache store same s =
+    let sealing = sealing_by old new sound cache store same s in
     let slot = sealing_slot s.page old new sealing in
-    edited_keeps s.page slot (slot_flushed slot) old new (sealing_edited s.page old new sealing) refl
-seal_keeps Failed old new sound cache store same s = stopped_keeps old new s.0
-seal_keeps Off old new sound cache store same s = stopped_keeps old new s.0
-seal_keeps Ready old new sound cache store same s = absurd s
-seal_keeps (Pinned other) old new sound cache store same s = absurd s
+    let edited = sealing_edited s.page old new sealing in
+    record {
+      keeps = edited_keeps s.page slot (slot_flushed slot) old new edited refl;
+      resident = edited_resident s.page slot (slot_flushed slot) old new edited;
+    }
+seal_turned Failed old new sound cache store same s = stopped_turned old new s.0
+seal_turned Off old new sound cache store same s = stopped_turned old new s.0
+seal_turned Ready old new sound cache store same s = absurd s
+seal_turned (Pinned other) old new sound cache store same s = absurd s
 
-collect_keeps : (result : Work) (old new : DeviceView) → Turning result old new → old.store.world.flash.on ≡ true
-    → HasCollected old result new → Keeps (parts_of old) (parts_of new)
-collect_keeps result old new t on c =
-    let same = collected_same old.store new.store old.store.owed c.step t.store on t.table c.collects in
-    stopped_keeps (parts_of old) (parts_of new) (record {
+collect_turned : (result : Work) (old new : DeviceView) → IsStoreSound old.store → IsTableSound old.store.world.table
+    → CallsOnce old.store (stop_of_work result) new.store → old.store.world.flash.on ≡ true → HasCollected old result new
+    → Turned (parts_of old) (parts_of new)
+collect_turned result old new store table calls on c =
+    let same = collected_same old.store new.store old.store.owed c.step store on table c.collects in
+    stopped_turned (parts_of old) (parts_of new) (record {
       cache = ap (λ (d : DeviceView). d.cache) c.rest;
       window = ap (λ (d : DeviceView). d.window) c.rest;
-      pages = pages_same old.store new.store (as_many_pages old.store new.store (stop_of_work result) t.calls) same;
+      pages = pages_same old.store new.store (as_many_pages old.store new.store (stop_of_work result) calls) same;
     })
 
-lines_kept : (result : Work) (old new : DeviceView) → Turning result old new → old.store.world.flash.on ≡ true
-    → Keeps (parts_of old) (parts_of new) → KeepsLines (lines_in old) (lines_in new)
-lines_kept result old new t on keeps =
-    keeps_lines result (parts_of old) (parts_of new) keeps (limits_of old.store new.store (stop_of_work result) t.calls)
-    (powers_of old.store new.store (stop_of_work result) on t.calls)
+turned : (result : Work) (old new : DeviceView) → IsDeviceSound (parts_of old) → IsCacheSound old.cache
+    → IsStoreStateSound (seen_of old.store) → IsStoreSound old.store → IsTableSound old.store.world.table
+    → CallsOnce old.store (stop_of_work result) new.store → IsCollectTurn old result new
+    → Turned (parts_of old) (parts_of new)
+turned result old new device cache seen store table calls (turn_off down is same) =
+    same_turned (parts_of old) (parts_of new) (ap parts_of same)
+turned result old new device cache seen store table calls (turn_seals on waits row) =
+    seal_turned result (parts_of old) (parts_of new) device cache seen
+    (limits_of old.store new.store (stop_of_work result) calls) row
+turned result old new device cache seen store table calls (turn_collects on idle wants row) =
+    collect_turned result old new store table calls on row
+turned result old new device cache seen store table calls (turn_idle on idle wants is same) =
+    same_turned (parts_of old) (parts_of new) (ap parts_of same)
 
-pub turn_lines : (result : Work) (old new : DeviceView) → Turning result old new → IsCollectTurn old result new
-    → KeepsLines (lines_in old) (lines_in new)
-turn_lines result old new t (turn_off down is same) = rw same (still_keeps (lines_in old))
-turn_lines result old new t (turn_seals on waits row) =
-    lines_kept result old new t on (seal_keeps result (parts_of old) (parts_of new) t.device t.cache t.seen
-    (limits_of old.store new.store (stop_of_work result) t.calls) row)
-turn_lines result old new t (turn_collects on idle wants row) =
-    lines_kept result old new t on (collect_keeps result old new t on row)
-turn_lines result old new t (turn_idle on idle wants is same) = rw same (still_keeps (lines_in old))
+pub turn_lines : (result : Work) (old new : DeviceView) → IsDeviceSound (parts_of old) → IsCacheSound old.cache
+    → IsStoreStateSound (seen_of old.store) → IsStoreSound old.store → IsTableSound old.store.world.table
+    → CallsOnce old.store (stop_of_work result) new.store → IsCollectTurn old result new
+    → old.store.world.flash.on ≡ true → KeepsLines (lines_in old) (lines_in new)
+turn_lines result old new device cache seen store table calls turn on =
+    keeps_lines result (parts_of old) (parts_of new)
+    (turned result old new device cache seen store table calls turn).keeps
+    (limits_of old.store new.store (stop_of_work result) calls)
+    (powers_of old.store new.store (stop_of_work result) on calls)
+
+pub turn_resident : (result : Work) (old new : DeviceView) → IsDeviceSound (parts_of old) → IsCacheSound old.cache
+    → IsStoreStateSound (seen_of old.store) → IsStoreSound old.store → IsTableSound old.store.world.table
+    → CallsOnce old.store (stop_of_work result) new.store → IsCollectTurn old result new
+    → SameSet (is_resident (parts_of old)) (is_resident (parts_of new))
+turn_resident result old new device cache seen store table calls turn =
+    (turned result old new device cache seen store table calls turn).resident
+
+seal_window : (result : Work) (old new : Parts) → SealRow result old new → new.window ≡ old.window
+seal_window Stepped old new s = s.window
+seal_window Failed old new s = s.0.window
+seal_window Off old new s = s.0.window
+seal_window Ready old new s = absurd s
+seal_window (Pinned other) old new s = absurd s
+
+pub turn_window : (result : Work) (old new : DeviceView) → IsCollectTurn old result new → new.window ≡ old.window
+turn_window result old new (turn_off down is same) = rw same refl
+turn_window result old new (turn_seals on waits row) = seal_window result (parts_of old) (parts_of new) row
+turn_window result old new (turn_collects on idle wants row) = rw row.rest refl
+turn_window result old new (turn_idle on idle wants is same) = rw same refl

@@ -2,11 +2,12 @@
 ghost use Rattle.std.specs.Prelude.{◌≡◌, ◌↔◌, IsTrue, None, true, false};
 ghost use Rattle.std.specs.Option.{is_some};
 ghost use Rattle.ff_flash.specs.FlashState.{HasOperationsLeft};
+ghost use Rattle.ff_lines.specs.PageSets.{SameSet};
 ghost use Rattle.ff_lines.specs.Works.{KeepsLines};
 ghost use Rattle.ff_store.specs.Calls.{WantsCollect};
 ghost use Rattle.ff_device.specs.CollectTurn.{work_of, HasCollected, IsCollectTurn};
 ghost use Rattle.ff_device.specs.Device.{lines_in, parts_of};
-ghost use Rattle.ff_device.specs.Parts.{SameShape};
+ghost use Rattle.ff_device.specs.Parts.{is_resident, SameShape};
 ghost use Rattle.ff_device.specs.StoreSteps.{CallsOnce};
 ghost use Rattle.ff_device.specs.WorkRows.{stop_of_work};
 
@@ -60,7 +61,7 @@ impl<F: Flash> Device<F> {
         }
     }
 
-    #[tactic(auto, using(crate::proofs::Shapes::turn_shape, crate::proofs::Shapes::same_shape))]
+    #[tactic(auto, using(crate::proofs::Shapes::turn_shape, crate::proofs::Collecting::turn_window, crate::proofs::Shapes::same_shape))]
     /// One step of a flush that waits, or of a collection that runs or is due. `Ready` where there is neither, and `Off`
     /// with the power off.
     pub fn collect_work(&mut self) -> Work
@@ -68,6 +69,8 @@ impl<F: Flash> Device<F> {
         ensures turn { IsCollectTurn self.old result self.new }
         ensures kept { KeepsLines (lines_in self.old) (lines_in self.new) }
         ensures calls { CallsOnce self.old.store (stop_of_work result) self.new.store }
+        ensures resident { SameSet (is_resident (parts_of self.old)) (is_resident (parts_of self.new)) }
+        ensures window { self.new.window ≡ self.old.window }
         ensures shape { SameShape (parts_of self.old) (parts_of self.new) }
     {
         self.parts_known();
