@@ -1,5 +1,5 @@
 -- What a call that is in range asks of the memory and its device.
-use Rattle.std.specs.Prelude.{ℕ, ◌≡◌, true, false}
+use Rattle.std.specs.Prelude.{ℕ, ◌≡◌, false}
 use Rattle.ff_lines.specs.DeviceState.{DeviceState, IsDrained}
 use Rattle.ff_lines.specs.LineMask.{IsLineRange}
 use Rattle.ff_lines.specs.declared.line_mask.LineMask.{LineMask}

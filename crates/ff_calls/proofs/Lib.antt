@@ -1,0 +1,3 @@
+pub mod ToldMoved
+pub mod ToldAdvanced
+pub mod ToldBegun
