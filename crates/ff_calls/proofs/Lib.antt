@@ -1,3 +1,4 @@
 pub mod ToldMoved
 pub mod ToldAdvanced
 pub mod ToldBegun
+pub mod ToldAnswered
