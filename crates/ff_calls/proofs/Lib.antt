@@ -2,3 +2,5 @@ pub mod ToldMoved
 pub mod ToldAdvanced
 pub mod ToldBegun
 pub mod ToldAnswered
+pub mod SpanBytes
+pub mod ToldLoaded
