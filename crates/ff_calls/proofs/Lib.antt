@@ -4,3 +4,4 @@ pub mod ToldBegun
 pub mod ToldAnswered
 pub mod SpanBytes
 pub mod ToldLoaded
+pub mod BornPages
