@@ -5,3 +5,5 @@ pub mod ToldAnswered
 pub mod SpanBytes
 pub mod ToldLoaded
 pub mod BornPages
+pub mod DeviceReads
+pub mod ToldStored
