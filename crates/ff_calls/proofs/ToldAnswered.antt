@@ -4,8 +4,8 @@ use Rattle.std.specs.Prelude.{IsTrue, ◌&&◌, ◌||◌}
 use Rattle.std.proofs.lemmas.Bool.{eq-eqb, ne_eqb}
 use Rattle.ff_base.specs.Count.{last_event}
 use Rattle.ff_kept.proofs.KeepingAnswered.{keeping-undone}
-use Rattle.ff_lines.specs.DeviceState.{DeviceState}
-use Rattle.ff_memory.specs.Memory.{MemoryView}
+use Rattle.ff_lines.specs.DeviceState.{DeviceState, IsDevice}
+use Rattle.ff_memory.specs.Memory.{IsMemorySound, MemoryView}
 use Rattle.ff_memory.specs.Places.{byte_of}
 use Rattle.ff_model.specs.Flat.{bears, flat_byte_of, is_born, is_done}
 use Rattle.ff_model.specs.Legal.{IsFault, MayFollow, Opening, due_reply, faults_after, is_refused, is_served, may_fault, next_event, served_reply}
@@ -24,6 +24,20 @@ pub record IsAnswered (opening : Opening) (entries : List Entry) (d : DeviceStat
   pub later : next_event opening entries ≤ entry.event
   pub not_past : entry.event ≤ last_event
   pub faults : entry.faults ≡ d.faults
+
+-- a call in range is answered now, before the last event
+pub record IsCalled (opening : Opening) (entries : List Entry) (m : MemoryView) (d : DeviceState) (entry : Entry) : Type 0 where
+  pub told : IsTold opening entries m d
+  pub sound : IsMemorySound m
+  pub device : IsDevice d
+  pub now : IsAnswered opening entries d entry
+  pub within : is_in_range opening.pages entry.op ≡ true
+  pub going : entry.event < last_event
+
+-- the same of its kind
+pub within-op : (opening : Opening) (entries : List Entry) (m : MemoryView) (d : DeviceState) (entry : Entry) (op : Op)
+    → IsCalled opening entries m d entry → entry.op ≡ op → is_in_range opening.pages op ≡ true
+within-op opening entries m d entry op called is = ap (λ (o : Op). is_in_range opening.pages o) (sym is) ∙ called.within
 
 or_false : (b : Bool) → b ≡ (b || false)
 or_false true = refl
@@ -125,3 +139,13 @@ told-fault opening entries entry m d told now reply may due rose =
       reply = inr (record { reply = reply; op = may; due = due; rose = omega arith });
     })
     (omega arith) (rw reply refl)
+
+-- a call that isn't refused may be answered as it is served
+pub served-follows : (opening : Opening) (entries : List Entry) (entry : Entry) (op : Op) (m : MemoryView) (d : DeviceState)
+    → IsCalled opening entries m d entry → entry.op ≡ op → is_refused opening entries op ≡ false
+    → entry.reply ≡ served_reply (flat_byte_of opening.base entries) op → MayFollow opening entries entry
+served-follows opening entries entry op m d called is allowed reply =
+    due-follows opening entries entry m d called.told called.now
+    (reply
+    ∙ sym (due_reply-served opening entries entry.event op (within-op opening entries m d entry op called is) called.going allowed)
+    ∙ ap (λ (o : Op). due_reply opening entries entry.event o) (sym is))

@@ -21,7 +21,7 @@ use Rattle.ff_model.specs.declared.op.Reply.TheVariants.{Bytes}
 use Rattle.ff_model.proofs.Replies.{served_reply-same, span_one_line}
 use Rattle.ff_calls.specs.Told.{IsTold}
 use Rattle.ff_calls.proofs.SpanBytes.{span_of-bytes}
-use Rattle.ff_calls.proofs.ToldAnswered.{IsAnswered, due-follows, due_reply-served, told-undone}
+use Rattle.ff_calls.proofs.ToldAnswered.{IsCalled, served-follows, told-undone, within-op}
 use Rattle.ff_calls.proofs.ToldBegun.{says-table}
 use Rattle.ff_calls.proofs.ToldMoved.{SaysSame, says-same, told-moved}
 
@@ -53,22 +53,21 @@ load-keeps None false opening entries page bytes reply side m d m' d' told devic
 
 -- a load was served by a frame or by the device
 pub told-loaded : (opening : Opening) (entries : List Entry) (entry : Entry) (at len : ℕ) (side : Side) (m : MemoryView)
-    (d : DeviceState) (m' : MemoryView) (d' : DeviceState) → IsTold opening entries m d → IsMemorySound m → IsDevice d
-    → IsAnswered opening entries d entry → entry.op ≡ Load at len → is_in_range opening.pages (Load at len) ≡ true
-    → entry.event < last_event → IsLoad at len m d (Served entry.reply side) m' d' → IsLocated m' d' → SamePlaces m d m' d'
+    (d : DeviceState) (m' : MemoryView) (d' : DeviceState) → IsCalled opening entries m d entry → entry.op ≡ Load at len
+    → IsLoad at len m d (Served entry.reply side) m' d' → IsLocated m' d' → SamePlaces m d m' d'
     → IsTold opening (entries ++ entry ∷ []) m' d'
-told-loaded opening entries entry at len side m d m' d' told sound device now op within going is located places =
+told-loaded opening entries entry at len side m d m' d' called op is located places =
+    let told = called.told in
+    let within = within-op opening entries m d entry (Load at len) called op in
     let keeps = load-keeps (serving_frame m (page_of at) (line_in_page at)) (d.resident (page_of at)) opening entries (page_of at)
-    (span_of m d at len) entry.reply side m d m' d' told device is in
+    (span_of m d at len) entry.reply side m d m' d' told called.device is in
     let moved = told-moved opening entries m d m' d' told keeps.says located places (let same = keeps.faults in omega arith)
     keeps.keeping in
     let span : Bytes (span_of m d at len) ≡ served_reply (byte_of m d) (Load at len) =
-    ap Bytes (span_of-bytes m d at len sound device (span_one_line opening.pages at len within)) in
-    let due : entry.reply ≡ due_reply opening entries entry.event entry.op =
+    ap Bytes (span_of-bytes m d at len called.sound called.device (span_one_line opening.pages at len within)) in
+    let reply : entry.reply ≡ served_reply (flat_byte_of opening.base entries) (Load at len) =
     keeps.answer ∙ span
-    ∙ served_reply-same (byte_of m d) (flat_byte_of opening.base entries) opening.pages (Load at len) told.flat within
-    ∙ sym (due_reply-served opening entries entry.event (Load at len) within going refl)
-    ∙ ap (λ (o : Op). due_reply opening entries entry.event o) (sym op) in
-    told-undone opening entries entry m' d' moved (due-follows opening entries entry m d told now due)
-    (let one = now.faults in let two = keeps.faults in omega arith)
-    (ap is_done keeps.answer)
+    ∙ served_reply-same (byte_of m d) (flat_byte_of opening.base entries) opening.pages (Load at len) told.flat within in
+    told-undone opening entries entry m' d' moved
+    (served-follows opening entries entry (Load at len) m d called op refl reply)
+    (let one = called.now.faults in let two = keeps.faults in omega arith) (ap is_done keeps.answer)

@@ -34,18 +34,14 @@ use Rattle.ff_calls.specs.Told.{IsTold}
 use Rattle.ff_calls.proofs.BornPages.{refused-told}
 use Rattle.ff_calls.proofs.DeviceReads.{device_byte-served, serving-posted, unmarked-framed}
 use Rattle.ff_calls.proofs.SpanBytes.{length-place}
-use Rattle.ff_calls.proofs.ToldAnswered.{IsAnswered, due-follows, due_reply-served, told-refused}
+use Rattle.ff_calls.proofs.ToldAnswered.{IsCalled, served-follows, told-refused, within-op}
 
--- a store in range is answered now, before the last event
+-- a store in range is answered now
 pub record IsStoreAnswered (opening : Opening) (entries : List Entry) (at : ℕ) (bytes : List ℕ) (m : MemoryView) (d : DeviceState)
     (entry : Entry) : Type 0 where
-  pub told : IsTold opening entries m d
-  pub sound : IsMemorySound m
-  pub device : IsDevice d
-  pub now : IsAnswered opening entries d entry
+  pub called : IsCalled opening entries m d entry
   pub op : entry.op ≡ Store at bytes
   pub within : is_in_range opening.pages (Store at bytes) ≡ true
-  pub going : entry.event < last_event
 
 -- what a store that was answered Done leaves
 pub record StoreKeeps (opening : Opening) (entries : List Entry) (entry : Entry) (at : ℕ) (m : MemoryView) (d : DeviceState)
@@ -69,9 +65,9 @@ born-stored : (opening : Opening) (entries : List Entry) (entry : Entry) (at : �
     → IsStoreAnswered opening entries at bytes m d entry → entry.reply ≡ Done → (page : ℕ) → page < opening.pages
     → is_born_in (with_born (page_of at) m.table) page ≡ is_born opening.base (entries ++ entry ∷ []) page
 born-stored opening entries entry at bytes m d given done page within =
-    let told = given.told in
+    let told = given.called.told in
     let before : is_born_in m.table page ≡ is_born opening.base entries page = told.born page within in
-    let size : length m.table.born ≡ opening.pages = given.sound.table_sound.born_or_not ∙ told.pages in
+    let size : length m.table.born ≡ opening.pages = given.called.sound.table_sound.born_or_not ∙ told.pages in
     let op = given.op in
     let after = is_born-append opening.base entries entry page in
     elim (cases_eq page (page_of at)) [
@@ -99,23 +95,21 @@ pub told-done : (opening : Opening) (entries : List Entry) (entry : Entry) (at :
     → is_store_refused m (page_of at) ≡ false → StoreKeeps opening entries entry at m d m' d' → IsLocated m' d'
     → IsStored (page_of at) (line_in_page at) (place_in_line at) bytes m d m' d' → IsTold opening (entries ++ entry ∷ []) m' d'
 told-done opening entries entry at bytes m d m' d' given allowed keeps located stored =
-    let told = given.told in
+    let told = given.called.told in
     let op = given.op in
     let in_pages = page-in_range opening.pages at (length bytes) given.within in
-    let free = sym (refused-told opening entries m d at bytes told given.sound in_pages) ∙ allowed in
-    let due : entry.reply ≡ due_reply opening entries entry.event entry.op =
-    keeps.done ∙ sym (due_reply-served opening entries entry.event (Store at bytes) given.within given.going free)
-    ∙ ap (λ (o : Op). due_reply opening entries entry.event o) (sym op) in
+    let free = sym (refused-told opening entries m d at bytes told given.called.sound in_pages) ∙ allowed in
     let after = faults_after-append opening entries entry in
-    let one = given.now.faults in
+    let one = given.called.now.faults in
     let two = keeps.faults in
     record {
-      legal = legal-append opening entries entry told.legal (due-follows opening entries entry m d told given.now due);
+      legal = legal-append opening entries entry told.legal
+          (served-follows opening entries entry (Store at bytes) m d given.called op free keeps.done);
       faults = omega arith;
       pages = ap (λ (t : PageTableView). length t.homes) keeps.table ∙ told.pages;
       capacity = keeps.capacity ∙ told.capacity;
       flat = flat-stored opening.base entries entry opening.pages m d m' d' at bytes
-          (length-place m d (page_of at) (line_in_page at) given.sound given.device (omega arith))
+          (length-place m d (page_of at) (line_in_page at) given.called.sound given.called.device (omega arith))
           (span_one_line opening.pages at (length bytes) given.within) op keeps.done stored told.flat;
       born = λ page low.
           ap (λ (t : PageTableView). is_born_in t page) keeps.table
@@ -142,9 +136,9 @@ framed-keeps : (opening : Opening) (entries : List Entry) (entry : Entry) (at : 
     → IsFrameStore frame (page_of at) (line_in_page at) (place_in_line at) bytes m d (Served entry.reply side) m' d'
     → StoreKeeps opening entries entry at m d m' d'
 framed-keeps opening entries entry at bytes frame side m d m' d' given goes is =
-    let told = given.told in
+    let told = given.called.told in
     let drained = drains-kept (carries (entry_at m (page_of at)) (line_in_page at) (length bytes)) opening entries m d d' told
-    given.device is.device in
+    given.called.device is.device in
     let unmarked = unmarked-framed opening entries m d (page_of at) (line_in_page at) frame told (omega arith) goes in
     record {
       done = let a = is.access_is in cc;
@@ -161,7 +155,7 @@ posted-keeps : (opening : Opening) (entries : List Entry) (entry : Entry) (at : 
     → IsDeviceStore (page_of at) (line_in_page at) (place_in_line at) bytes (length entries) m d (Served entry.reply side) m' d'
     → StoreKeeps opening entries entry at m d m' d'
 posted-keeps opening entries entry at bytes side m d m' d' given goes is =
-    let told = given.told in
+    let told = given.called.told in
     let page : ℕ = page_of at in
     let line : ℕ = line_in_page at in
     let post : Post = record {
@@ -181,7 +175,7 @@ posted-keeps opening entries entry at bytes side m d m' d' given goes is =
       table = ap (λ (v : MemoryView). v.table) is.memory;
       capacity = ap (λ (v : MemoryView). v.capacity) is.memory;
       faults = is.device.residence.faults;
-      keeping = keeping-stored opening entries entry post d d' told.legal given.device
+      keeping = keeping-stored opening entries entry post d d' told.legal given.called.device
           (record { line = omega arith; span = omega arith }) is.device refl (ap is_done done)
           (given.op ∙ store_of-at at bytes post refl refl refl refl)
           (λ address on_page on_line.
@@ -201,18 +195,18 @@ stored-by : (refused : Bool) (to : Option ℕ) (resident : Bool) (opening : Open
     → StoresBy (Served entry.reply side) (page_of at) (line_in_page at) (place_in_line at) bytes m d m' d'
     → IsTold opening (entries ++ entry ∷ []) m' d'
 stored-by true to resident opening entries entry at bytes side m d m' d' given refused goes is located stored =
-    let told = given.told in
+    let told = given.called.told in
     let op = given.op in
     let full : entry.reply ≡ Full = let a = is.access_is in cc in
     let in_pages = page-in_range opening.pages at (length bytes) given.within in
     let asked : is_refused opening entries (Store at bytes) ≡ true =
-    sym (refused-told opening entries m d at bytes told given.sound in_pages) ∙ refused in
+    sym (refused-told opening entries m d at bytes told given.called.sound in_pages) ∙ refused in
     let within = given.within in
-    let low = given.going in
+    let low = given.called.going in
     let before : (entry.event == last_event) ≡ false = ne_eqb entry.event last_event (omega arith) in
     let due : Full ≡ due_reply opening entries entry.event (Store at bytes) = rw (within, before, asked) refl in
     rw (is.memory, is.device)
-    (told-refused opening entries entry m d told given.now
+    (told-refused opening entries entry m d told given.called.now
     (full ∙ due ∙ ap (λ (o : Op). due_reply opening entries entry.event o) (sym op)) (ap is_done full))
 stored-by false (Some frame) resident opening entries entry at bytes side m d m' d' given allowed goes is located stored =
     let keeps = framed-keeps opening entries entry at bytes frame side m d m' d' given goes is in
@@ -225,11 +219,16 @@ stored-by false None false opening entries entry at bytes side m d m' d' given a
 
 -- a store was answered: it is refused, a frame has it, or it was posted with the position of its entry
 pub told-stored : (opening : Opening) (entries : List Entry) (entry : Entry) (at : ℕ) (bytes : List ℕ) (side : Side) (m : MemoryView)
-    (d : DeviceState) (m' : MemoryView) (d' : DeviceState) → IsStoreAnswered opening entries at bytes m d entry
+    (d : DeviceState) (m' : MemoryView) (d' : DeviceState) → IsCalled opening entries m d entry → entry.op ≡ Store at bytes
     → IsStore (page_of at) (line_in_page at) (place_in_line at) bytes (length entries) m d (Served entry.reply side) m' d'
     → IsLocated m' d'
     → StoresBy (Served entry.reply side) (page_of at) (line_in_page at) (place_in_line at) bytes m d m' d'
     → IsTold opening (entries ++ entry ∷ []) m' d'
-told-stored opening entries entry at bytes side m d m' d' given is located stored =
+told-stored opening entries entry at bytes side m d m' d' called op is located stored =
+    let given : IsStoreAnswered opening entries at bytes m d entry = record {
+      called = called;
+      op = op;
+      within = within-op opening entries m d entry (Store at bytes) called op;
+    } in
     stored-by (is_store_refused m (page_of at)) (storing_frame m (page_of at) (line_in_page at)) (d.resident (page_of at)) opening
     entries entry at bytes side m d m' d' given refl refl is located stored
