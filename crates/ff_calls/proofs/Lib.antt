@@ -7,3 +7,4 @@ pub mod ToldLoaded
 pub mod BornPages
 pub mod DeviceReads
 pub mod ToldStored
+pub mod MarkedLines
