@@ -8,3 +8,4 @@ pub mod BornPages
 pub mod DeviceReads
 pub mod ToldStored
 pub mod MarkedLines
+pub mod ToldMarked
