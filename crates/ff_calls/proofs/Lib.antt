@@ -9,3 +9,6 @@ pub mod DeviceReads
 pub mod ToldStored
 pub mod MarkedLines
 pub mod ToldMarked
+pub mod ToldServed
+pub mod ToldMissed
+pub mod ToldFresh
