@@ -1,6 +1,6 @@
 -- The born pages of a memory are those of the history: how many there are, and which store is refused.
-use Rattle.std.proofs.Common.{◌≡◌, ◌≤◌, ◌<◌, ℕ, zero, suc, ◌+◌, ◌/◌, ◌==◌, Bool, true, false, not, cond, List, [], ◌∷◌, length, get_or, refl, sym, ap, ◌∙◌, zero-add, arith}
-use Rattle.std.specs.Prelude.{count_by, ◌&&◌}
+use Rattle.std.proofs.Common.{◌≡◌, ◌<◌, ℕ, zero, suc, ◌+◌, Bool, false, cond, List, [], ◌∷◌, length, get_or, refl, sym, ap, ◌∙◌, zero-add, arith}
+use Rattle.std.specs.Prelude.{count_by}
 use Rattle.std.specs.List.{range_with_len}
 use Rattle.std.proofs.lemmas.List.Sums.{sum_by-cons}
 use Rattle.ff_lines.specs.DeviceState.{DeviceState}
@@ -11,7 +11,7 @@ use Rattle.ff_model.specs.Flat.{born_count, is_born}
 use Rattle.ff_model.specs.Legal.{Opening, is_refused}
 use Rattle.ff_model.specs.declared.history.Entry.{Entry}
 use Rattle.ff_model.specs.declared.op.Op.TheVariants.{Store}
-use Rattle.ff_table.specs.Table.{born_count_in, is_born_in}
+use Rattle.ff_table.specs.Table.{born_count_in}
 use Rattle.ff_calls.specs.Told.{IsTold}
 
 -- the flags of a list, counted by their numbers

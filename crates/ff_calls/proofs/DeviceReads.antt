@@ -1,5 +1,5 @@
 -- Which bytes of the device the history has: those of lines that the device serves, the marked ones among them.
-use Rattle.std.proofs.Common.{◌≡◌, ◌≢◌, ◌≤◌, ◌<◌, inl, inr, ℕ, ◌+◌, ◌*◌, ◌/◌, ◌%◌, ◌==◌, Bool, true, false, List, length, get_or, Option, Some, None, refl, sym, ap, ◌∙◌, arith}
+use Rattle.std.proofs.Common.{◌≡◌, ◌≢◌, ◌<◌, inl, inr, ℕ, ◌%◌, ◌==◌, Bool, true, false, List, length, get_or, Option, Some, None, refl, sym, ap, ◌∙◌, arith}
 use Rattle.std.specs.Int.{bit_at}
 use Rattle.std.proofs.lemmas.Bool.{cases_eq, cases_lt}
 use Rattle.std.proofs.lemmas.List.{get_or_past}
@@ -10,7 +10,7 @@ use Rattle.ff_kept.specs.Posted.{device_byte}
 use Rattle.ff_lines.specs.DeviceState.{DeviceState}
 use Rattle.ff_lines.specs.LineMask.{has_line}
 use Rattle.ff_memory.specs.Memory.{IsMemorySound, MemoryView, entry_at, home_at}
-use Rattle.ff_memory.specs.Places.{byte_of, frame_for, frame_in_flight, frame_of_page, is_home, line_from, line_in_page, page_of, place_in_line, serving_frame, store_frame_for, store_in_flight, storing_frame}
+use Rattle.ff_memory.specs.Places.{frame_for, frame_in_flight, frame_of_page, line_from, line_in_page, page_of, serving_frame, store_frame_for, store_in_flight, storing_frame}
 use Rattle.ff_model.specs.Callers.{is_marked}
 use Rattle.ff_model.specs.Flat.{flat_byte_of}
 use Rattle.ff_model.specs.Legal.{Opening}
@@ -20,7 +20,6 @@ use Rattle.ff_plb.specs.declared.slot.Way.{Way}
 use Rattle.ff_plb.specs.declared.slot.Way.TheVariants.{Coming, Leaving}
 use Rattle.ff_table.specs.Table.{marks_of}
 use Rattle.ff_table.specs.declared.table.Home.{Home}
-use Rattle.ff_table.specs.declared.table.Home.TheVariants.{Ssd, Host}
 use Rattle.ff_calls.specs.Told.{IsTold}
 
 -- the device serves the lines of a page that has no frame

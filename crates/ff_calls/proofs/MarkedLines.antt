@@ -1,5 +1,5 @@
 -- The marked lines of a table after lines of a page were marked, and after their marks were cleared.
-use Rattle.std.proofs.Common.{◌≡◌, ◌≢◌, ◌≤◌, ◌<◌, inl, inr, ℕ, ◌+◌, ◌-◌, ◌^◌, ◌==◌, Bool, true, false, not, List, length, get_or, bit_and, bit_or, refl, sym, ap, ◌∙◌, w64, arith}
+use Rattle.std.proofs.Common.{◌≡◌, ◌<◌, inl, inr, ℕ, ◌-◌, ◌^◌, ◌==◌, true, false, not, length, refl, sym, ap, ◌∙◌, w64, arith}
 use Rattle.std.specs.Prelude.{◌||◌, ◌&&◌, min, max}
 use Rattle.std.specs.Int.{bit_at}
 use Rattle.std.proofs.lemmas.Bool.{cases_eq, cases_lt, eq-eqb, ne_eqb}

@@ -1,16 +1,14 @@
 -- The bytes of a span, taken from its line and taken by address.
-use Rattle.std.proofs.Common.{◌≡◌, ◌≤◌, ◌<◌, ℕ, zero, suc, ◌+◌, ◌-◌, ◌*◌, ◌/◌, ◌%◌, List, [], ◌∷◌, length, take, drop, get_or, map, Option, Some, None, refl, sym, ap, ◌∙◌, add-one, arith}
-use Rattle.std.specs.Prelude.{IsTrue}
+use Rattle.std.proofs.Common.{◌≡◌, ◌≤◌, ◌<◌, ℕ, zero, suc, ◌+◌, ◌-◌, ◌*◌, ◌/◌, ◌%◌, List, ◌∷◌, length, take, drop, get_or, map, Option, Some, None, refl, sym, ap, ◌∙◌, arith}
 use Rattle.std.specs.List.{range_with_len}
 use Rattle.std.proofs.lemmas.List.{drop_more}
-use Rattle.ff_base.specs.Page.{line_of}
 use Rattle.ff_base.proofs.PageLines.{length-line_of}
 use Rattle.ff_frames.specs.Frames.{frame_at}
 use Rattle.ff_lines.specs.DeviceState.{DeviceState, IsDevice}
 use Rattle.ff_lines.proofs.DeviceLines.{length-line_at}
 use Rattle.ff_memory.specs.Loads.{span_of}
 use Rattle.ff_memory.specs.Memory.{IsMemorySound, MemoryView}
-use Rattle.ff_memory.specs.Places.{byte_of, line_from, line_in_page, page_of, place, place_in_line, serving_frame}
+use Rattle.ff_memory.specs.Places.{byte_of, line_from, line_in_page, page_of, place, serving_frame}
 use Rattle.ff_model.specs.Legal.{span_bytes}
 
 length-line_from : (m : MemoryView) (d : DeviceState) (page line : ℕ) (from : Option ℕ) → IsMemorySound m → IsDevice d → line < 64

@@ -1,6 +1,6 @@
 -- What a history says once a call was answered that stores and marks nothing: one that was refused, met a fault, or loaded.
 use Rattle.std.proofs.Common.{◌≡◌, ◌≤◌, ◌<◌, inl, inr, ℕ, ◌==◌, Bool, true, false, List, [], ◌∷◌, ◌++◌, refl, sym, ap, ◌∙◌, arith}
-use Rattle.std.specs.Prelude.{IsTrue, ◌&&◌, ◌||◌}
+use Rattle.std.specs.Prelude.{◌||◌}
 use Rattle.std.proofs.lemmas.Bool.{eq-eqb, ne_eqb}
 use Rattle.ff_base.specs.Count.{last_event}
 use Rattle.ff_kept.proofs.KeepingAnswered.{keeping-undone}
@@ -8,12 +8,11 @@ use Rattle.ff_lines.specs.DeviceState.{DeviceState, IsDevice}
 use Rattle.ff_memory.specs.Memory.{IsMemorySound, MemoryView}
 use Rattle.ff_memory.specs.Places.{byte_of}
 use Rattle.ff_model.specs.Flat.{bears, flat_byte_of, is_born, is_done}
-use Rattle.ff_model.specs.Legal.{IsFault, MayFollow, Opening, due_reply, faults_after, is_refused, is_served, may_fault, next_event, served_reply}
+use Rattle.ff_model.specs.Legal.{MayFollow, Opening, due_reply, faults_after, is_refused, is_served, may_fault, next_event, served_reply}
 use Rattle.ff_model.specs.Spans.{is_in_range}
 use Rattle.ff_model.specs.declared.history.Entry.{Entry}
 use Rattle.ff_model.specs.declared.op.Op.{Op}
 use Rattle.ff_model.specs.declared.op.Op.TheVariants.{Load, Store, Verify, Mark, Release}
-use Rattle.ff_model.specs.declared.op.Reply.{Reply}
 use Rattle.ff_model.specs.declared.op.Reply.TheVariants.{Range, Spent, Fault}
 use Rattle.ff_model.proofs.Appended.{faults_after-append, flat-append, is_born-append, legal-append}
 use Rattle.ff_model.proofs.AppendedCalls.{is_marked-append}
@@ -43,11 +42,13 @@ or_false : (b : Bool) → b ≡ (b || false)
 or_false true = refl
 or_false false = refl
 
--- an entry that was answered otherwise than Done bears no page
-born-undone : (opening : Opening) (entries : List Entry) (entry : Entry) (page : ℕ) → is_done entry.reply ≡ false
-    → is_born opening.base (entries ++ entry ∷ []) page ≡ is_born opening.base entries page
-born-undone opening entries entry page undone =
-    is_born-append opening.base entries entry page ∙ rw undone (sym (or_false (is_born opening.base entries page)))
+-- an entry that bears no page leaves those that are born
+pub is_born-same : (opening : Opening) (entries : List Entry) (entry : Entry) (page : ℕ) → bears page entry ≡ false
+    → is_born opening.base entries page ≡ is_born opening.base (entries ++ entry ∷ []) page
+is_born-same opening entries entry page none =
+    or_false (is_born opening.base entries page)
+    ∙ ap (λ (b : Bool). is_born opening.base entries page || b) (sym none)
+    ∙ sym (is_born-append opening.base entries entry page)
 
 -- a call was answered otherwise than Done
 pub told-undone : (opening : Opening) (entries : List Entry) (entry : Entry) (m : MemoryView) (d : DeviceState)
@@ -62,7 +63,7 @@ told-undone opening entries entry m d told follows faults undone =
       capacity = told.capacity;
       flat = flat-append opening.base entries entry opening.pages (byte_of m d) (byte_of m d) told.flat
           (λ address within. rw undone refl);
-      born = λ page within. told.born page within ∙ sym (born-undone opening entries entry page undone);
+      born = λ page within. told.born page within ∙ is_born-same opening entries entry page (rw undone refl);
       marks = λ page line low.
           told.marks page line low ∙ sym (is_marked-append opening.base entries entry page line ∙ rw undone refl);
       located = told.located;

@@ -1,5 +1,5 @@
 -- What a history says still stands where a page begins to move or turns back, and where referred flags are cleared.
-use Rattle.std.proofs.Common.{◌≡◌, ℕ, Bool, true, List, length, Option, Some, None, refl, ap, arith, length-set}
+use Rattle.std.proofs.Common.{◌≡◌, ℕ, Bool, true, List, length, Option, Some, None, refl, ap, ◌∙◌, arith, length-set}
 use Rattle.ff_kept.proofs.KeepingDrained.{keeping-drained, keeping-pinned}
 use Rattle.ff_lines.specs.DeviceState.{DeviceState, IsDevice}
 use Rattle.ff_memory.specs.Begins.{IsPromoted, IsRetreated, turned_at, turned_by}
@@ -77,3 +77,15 @@ told-unreferred opening entries these m d m' told is =
     let like = unreferred-like these m m' d is in
     told-moved opening entries m d m' d told (says-table m m' is.table is.capacity)
     (like-located m d m' d told.located like) (like-places m d m' d like) (omega arith) told.keeping
+
+-- the page of the evictor's frame began to leave, and the referred flags of the frames that were passed were cleared
+pub told-evicted : (opening : Opening) (entries : List Entry) (page : ℕ) (these : ℕ → Bool) (m : MemoryView) (d : DeviceState)
+    (between m' : MemoryView) (d' : DeviceState) → IsTold opening entries m d → IsRetreated page m d between d'
+    → IsUnreferred these between m' → IsLocated m' d' → SamePlaces m d m' d' → IsTold opening entries m' d'
+told-evicted opening entries page these m d between m' d' told is passed located places =
+    let pinned = is.device in
+    let same = pinned.residence.faults in
+    told-moved opening entries m d m' d' told
+    (says-table m m' (passed.table ∙ ap (λ (v : MemoryView). v.table) is.memory)
+    (passed.capacity ∙ ap (λ (v : MemoryView). v.capacity) is.memory))
+    located places (omega arith) (keeping-pinned opening.base entries page true d d' pinned told.keeping)

@@ -1,26 +1,22 @@
 -- A session begins: a fresh memory over a device of zeros holds what an empty history says.
-use Rattle.std.specs.Prelude.{◌||◌, is_some, replicate, slice_get, slice_index, unwrap_or}
-use Rattle.std.proofs.Common.{◌≡◌, ◌≤◌, ◌<◌, inl, inr, ℕ, zero, ◌+◌, ◌-◌, ◌*◌, ◌/◌, ◌%◌, Bool, true, false, List, [], length, take, drop, get_or, Option, Some, None, refl, sym, ap, subst, ◌∙◌, arith}
+use Rattle.std.specs.Prelude.{◌||◌, is_some, replicate}
+use Rattle.std.proofs.Common.{◌≡◌, ◌≤◌, inl, inr, ℕ, zero, ◌+◌, ◌-◌, ◌*◌, ◌/◌, ◌%◌, false, List, [], take, drop, get_or, Option, Some, None, refl, sym, ap, ◌∙◌, arith}
 use Rattle.std.proofs.lemmas.Bool.{cases_lt, le-ltb, lt-ltb}
 use Rattle.std.proofs.lemmas.List.{get_or-drop, get_or-replicate, get_or-take, get_or_past, length-replicate, length-take}
 use Rattle.std.proofs.lemmas.Option.{unwrap_or-slice_get}
 use Rattle.ff_base.specs.Page.{blank_line, blank_page, line_of}
-use Rattle.ff_kept.specs.Posted.{below_byte}
 use Rattle.ff_kept.proofs.KeepingAnswered.{keeping-opened}
 use Rattle.ff_lines.specs.BlankLine.{line_or_blank}
-use Rattle.ff_lines.specs.DeviceState.{DeviceState, line_at}
-use Rattle.ff_lines.specs.Posts.{laid}
-use Rattle.ff_lines.specs.declared.post.Post.{Post}
+use Rattle.ff_lines.specs.DeviceState.{DeviceState}
 use Rattle.ff_memory.specs.Located.{IsLocated}
 use Rattle.ff_memory.specs.Memory.{MemoryView, entry_at, fresh_memory, home_at}
-use Rattle.ff_memory.specs.Places.{byte_of, frame_of_page, line_from, line_in_page, page_of, serving_frame}
+use Rattle.ff_memory.specs.Places.{byte_of}
 use Rattle.ff_memory.proofs.Worked.{located-fresh}
 use Rattle.ff_model.specs.Callers.{is_marked}
 use Rattle.ff_model.specs.Flat.{is_born}
 use Rattle.ff_model.specs.Image.{Content, byte_at, byte_in, empty_content, held_page}
 use Rattle.ff_model.specs.Legal.{Opening}
 use Rattle.ff_plb.specs.declared.slot.Slot.{Slot}
-use Rattle.ff_table.specs.Table.{is_born_in, marks_of}
 use Rattle.ff_table.specs.declared.table.Home.TheVariants.{Ssd}
 use Rattle.ff_calls.specs.Told.{IsTold}
 
@@ -114,5 +110,5 @@ told-fresh opening frames slots m d base faults memory fresh =
       located = located;
       keeping = keeping-opened opening.base d fresh.posts
           (λ address.
-              fresh.below (address / 4096) (address % 4096 / 64) (address % 64) ∙ sym (zero_at address));
+          fresh.below (address / 4096) (address % 4096 / 64) (address % 64) ∙ sym (zero_at address));
     }

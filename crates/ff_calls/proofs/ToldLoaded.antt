@@ -1,20 +1,17 @@
 -- What a history says once a load was served.
-use Rattle.std.proofs.Common.{◌≡◌, ◌≤◌, ◌<◌, ℕ, Bool, true, false, List, [], ◌∷◌, ◌++◌, Option, Some, None, refl, sym, ap, ◌∙◌, arith}
-use Rattle.ff_base.specs.Count.{last_event}
+use Rattle.std.proofs.Common.{◌≡◌, ℕ, Bool, true, false, List, [], ◌∷◌, ◌++◌, Option, Some, None, refl, ap, ◌∙◌, arith}
 use Rattle.ff_kept.proofs.KeepingDrained.{keeping-drained}
 use Rattle.ff_kept.specs.Keeping.{IsKeepingDevice}
 use Rattle.ff_lines.specs.DeviceState.{DeviceState, IsDevice}
 use Rattle.ff_memory.specs.Loads.{IsLoad, IsLoadBy, span_of}
 use Rattle.ff_memory.specs.Located.{IsLocated}
-use Rattle.ff_memory.specs.Memory.{IsMemorySound, MemoryView}
+use Rattle.ff_memory.specs.Memory.{MemoryView}
 use Rattle.ff_memory.specs.Places.{SamePlaces, byte_of, line_in_page, page_of, serving_frame}
 use Rattle.ff_memory.specs.declared.access.Access.TheVariants.{Served}
 use Rattle.ff_memory.specs.declared.access.Side.{Side}
 use Rattle.ff_model.specs.Flat.{flat_byte_of, is_done}
-use Rattle.ff_model.specs.Legal.{Opening, due_reply, served_reply}
-use Rattle.ff_model.specs.Spans.{is_in_range}
+use Rattle.ff_model.specs.Legal.{Opening, served_reply}
 use Rattle.ff_model.specs.declared.history.Entry.{Entry}
-use Rattle.ff_model.specs.declared.op.Op.{Op}
 use Rattle.ff_model.specs.declared.op.Op.TheVariants.{Load}
 use Rattle.ff_model.specs.declared.op.Reply.{Reply}
 use Rattle.ff_model.specs.declared.op.Reply.TheVariants.{Bytes}

@@ -1,39 +1,38 @@
 -- What a history says once a verify, a mark or a release was served.
-use Rattle.std.proofs.Common.{◌≡◌, ◌≤◌, ◌<◌, inl, inr, ℕ, ◌+◌, ◌*◌, ◌/◌, ◌%◌, ◌==◌, Bool, true, false, not, List, [], ◌∷◌, ◌++◌, length, Option, Some, None, refl, sym, ap, ◌∙◌, arith}
-use Rattle.std.specs.Prelude.{◌||◌, ◌&&◌, IsTrue, cond, is_none, nat_le, nat_lt, unwrap_or}
+use Rattle.std.proofs.Common.{◌≡◌, ◌<◌, inl, inr, ℕ, ◌+◌, ◌/◌, ◌%◌, ◌==◌, Bool, true, false, not, List, [], ◌∷◌, ◌++◌, length, Option, Some, None, refl, sym, ap, ◌∙◌, arith}
+use Rattle.std.specs.Prelude.{◌||◌, ◌&&◌, cond, is_none, nat_le, nat_lt, unwrap_or}
 use Rattle.std.specs.Int.{bit_at}
-use Rattle.std.proofs.lemmas.Bool.{and_parts, cases_Bool, eqb-true, ltb-true, or_cases}
+use Rattle.std.proofs.lemmas.Bool.{and_parts, eqb-true, ltb-true, or_cases}
 use Rattle.ff_base.specs.declared.numbers.PageNo.{PageNo}
 use Rattle.ff_kept.specs.Keeping.{IsKeepingDevice}
 use Rattle.ff_kept.specs.Marked.{marked_at}
 use Rattle.ff_kept.specs.Posted.{device_byte}
 use Rattle.ff_kept.proofs.KeepingAnswered.{keeping-acknowledged, keeping-released}
 use Rattle.ff_kept.proofs.Marks.{marked_at-append, marked_at-mark}
-use Rattle.ff_lines.specs.DeviceState.{DeviceState, IsDrained}
-use Rattle.ff_lines.specs.LineMask.{has_line}
+use Rattle.ff_lines.specs.DeviceState.{DeviceState}
 use Rattle.ff_memory.specs.Located.{IsLocated}
-use Rattle.ff_memory.specs.Marking.{IsMarkBy, IsMarked}
-use Rattle.ff_memory.specs.Memory.{MemoryView, entry_at, home_at, marks_set}
+use Rattle.ff_memory.specs.Marking.{IsMarkBy}
+use Rattle.ff_memory.specs.Memory.{MemoryView, entry_at, home_at}
 use Rattle.ff_memory.specs.Places.{SamePlaces, byte_of, frame_of_page, is_home, line_in_page, page_of}
 use Rattle.ff_memory.specs.declared.access.Access.TheVariants.{Served}
 use Rattle.ff_memory.specs.declared.access.Side.{Side}
 use Rattle.ff_memory.proofs.Flat.{byte-same}
-use Rattle.ff_model.specs.Callers.{acknowledges, is_in_lines, is_marked, mark_by, marked_by}
-use Rattle.ff_model.specs.Flat.{bears, covering_byte, flat_byte_of, is_born, is_done, stores_to}
+use Rattle.ff_model.specs.Callers.{is_in_lines, is_marked, mark_by, marked_by}
+use Rattle.ff_model.specs.Flat.{covering_byte, flat_byte_of, stores_to}
 use Rattle.ff_model.specs.Legal.{Opening, is_refused, served_reply}
-use Rattle.ff_model.specs.Spans.{is_in_range, is_line_range}
+use Rattle.ff_model.specs.Spans.{is_line_range}
 use Rattle.ff_model.specs.declared.history.Entry.{Entry}
 use Rattle.ff_model.specs.declared.op.Op.{Op}
-use Rattle.ff_model.specs.declared.op.Op.TheVariants.{Load, Store, Verify, Mark, Release}
+use Rattle.ff_model.specs.declared.op.Op.TheVariants.{Verify, Mark, Release}
 use Rattle.ff_model.specs.declared.op.Reply.TheVariants.{Done}
-use Rattle.ff_model.proofs.Appended.{faults_after-append, flat-append, is_born-append, legal-append}
+use Rattle.ff_model.proofs.Appended.{faults_after-append, flat-append, legal-append}
 use Rattle.ff_model.proofs.AppendedCalls.{is_marked-append}
 use Rattle.ff_table.specs.Table.{is_born_in, marks_of}
 use Rattle.ff_calls.specs.Accesses.{IsMarking, IsReleasing, IsVerified}
 use Rattle.ff_calls.specs.Told.{IsTold}
 use Rattle.ff_calls.proofs.DeviceReads.{device_byte-marked, device_byte-served, serving-home}
 use Rattle.ff_calls.proofs.MarkedLines.{marks-fewer, marks-more}
-use Rattle.ff_calls.proofs.ToldAnswered.{IsCalled, served-follows, within-op}
+use Rattle.ff_calls.proofs.ToldAnswered.{IsCalled, is_born-same, served-follows, within-op}
 use Rattle.ff_calls.proofs.ToldMoved.{told-drained}
 
 -- a call that stores nothing
@@ -52,10 +51,6 @@ pub record MarksKeep (opening : Opening) (entries : List Entry) (entry : Entry) 
       → (bit_at (marks_of m'.table page) line == 1) ≡ unwrap_or (mark_by page line op) (bit_at (marks_of m.table page) line == 1)
   pub faults : d'.faults ≡ d.faults
   pub keeping : IsKeepingDevice opening.base (entries ++ entry ∷ []) d'
-
-or_false : (b : Bool) → b ≡ (b || false)
-or_false true = refl
-or_false false = refl
 
 -- a call that stores nothing was answered Done
 told-marks : (opening : Opening) (entries : List Entry) (entry : Entry) (op : Op) (m : MemoryView) (d : DeviceState)
@@ -77,13 +72,10 @@ told-marks opening entries entry op m d m' d' called is none allowed reply keeps
       capacity = keeps.capacity ∙ told.capacity;
       flat = flat-append opening.base entries entry opening.pages (byte_of m d) (byte_of m' d') told.flat
           (λ address within.
-              byte-same m d m' d' places address
-              ∙ rw (done, is) (ap (λ (o : Option ℕ). unwrap_or o (byte_of m d address)) (sym (none.bytes address))));
+          byte-same m d m' d' places address
+          ∙ rw (done, is) (ap (λ (o : Option ℕ). unwrap_or o (byte_of m d address)) (sym (none.bytes address))));
       born = λ page within.
-          let bears_not : bears page entry ≡ false = rw (done, is) (none.born page) in
-          keeps.born page ∙ told.born page within ∙ or_false (is_born opening.base entries page)
-          ∙ ap (λ (b : Bool). is_born opening.base entries page || b) (sym bears_not)
-          ∙ sym (is_born-append opening.base entries entry page);
+          keeps.born page ∙ told.born page within ∙ is_born-same opening entries entry page (rw (done, is) (none.born page));
       marks = λ page line low.
           let says : mark_by page line op ≡ marked_by page line entry = rw (done, is) refl in
           keeps.marks page line low
@@ -104,7 +96,7 @@ told-verified opening entries entry side m d m' d' called op is located places =
     let done : entry.reply ≡ Done = let a = is.access_is in cc in
     let drained = told-drained opening entries m d d' called.told called.device is.device in
     let reads : (address : ℕ) → marked_at base (entries ++ entry ∷ []) address ≡ true
-        → device_byte d' address ≡ flat_byte_of base entries address =
+    → device_byte d' address ≡ flat_byte_of base entries address =
     λ address marked.
     let same : marked_at base (entries ++ entry ∷ []) address ≡ marked_at base entries address =
     marked_at-append base entries entry address ∙ rw (done, op) refl in

@@ -1,5 +1,5 @@
 -- What a call that missed a page found: nothing was done, and the call isn't refused.
-use Rattle.std.proofs.Common.{◌≡◌, ◌<◌, ℕ, ◌/◌, Bool, true, false, List, length, Option, Some, None, refl, sym, ap, ◌∙◌, arith}
+use Rattle.std.proofs.Common.{◌≡◌, ◌<◌, ℕ, Bool, true, false, List, length, Option, Some, None, refl, sym, ap, ◌∙◌, arith}
 use Rattle.ff_base.specs.Count.{last_event}
 use Rattle.ff_base.specs.declared.numbers.PageNo.{PageNo}
 use Rattle.ff_lines.specs.DeviceState.{DeviceState}
@@ -8,7 +8,6 @@ use Rattle.ff_memory.specs.Marking.{IsMarkBy}
 use Rattle.ff_memory.specs.Memory.{IsMemorySound, MemoryView, numbered}
 use Rattle.ff_memory.specs.Places.{is_home, line_in_page, page_of, place_in_line, serving_frame, storing_frame}
 use Rattle.ff_memory.specs.Stores.{IsStoreBy, is_store_refused}
-use Rattle.ff_memory.specs.declared.access.Access.{Access}
 use Rattle.ff_memory.specs.declared.access.Access.TheVariants.{Miss}
 use Rattle.ff_memory.proofs.Spans.{page-in_range}
 use Rattle.ff_model.specs.Legal.{Opening, due_reply, is_refused, is_served, may_fault}

@@ -1,7 +1,7 @@
 -- What a history says once a store was answered: refused, served by a frame, or posted.
-use Rattle.std.proofs.Common.{◌≡◌, ◌≢◌, ◌≤◌, ◌<◌, inl, inr, ℕ, ◌+◌, ◌*◌, ◌/◌, ◌%◌, ◌==◌, Bool, true, false, List, [], ◌∷◌, ◌++◌, length, get_or, set, Option, Some, None, refl, sym, ap, ◌∙◌, arith}
-use Rattle.std.specs.Prelude.{◌||◌, ◌&&◌}
-use Rattle.std.proofs.lemmas.Bool.{cases_Bool, cases_eq, eq-eqb, ne_eqb}
+use Rattle.std.proofs.Common.{◌≡◌, ◌<◌, inl, inr, ℕ, ◌==◌, Bool, true, false, List, [], ◌∷◌, ◌++◌, length, get_or, set, Option, Some, None, refl, sym, ap, ◌∙◌, arith}
+use Rattle.std.specs.Prelude.{◌||◌}
+use Rattle.std.proofs.lemmas.Bool.{cases_eq, eq-eqb, ne_eqb}
 use Rattle.std.proofs.lemmas.List.{get_or-set_same, get_or-set_other}
 use Rattle.ff_base.specs.Count.{last_event}
 use Rattle.ff_kept.specs.Keeping.{IsKeepingDevice}
@@ -11,20 +11,19 @@ use Rattle.ff_kept.proofs.KeepingPosted.{keeping-stored, store_of-at}
 use Rattle.ff_lines.specs.DeviceState.{DeviceState, IsDevice}
 use Rattle.ff_lines.specs.declared.post.Post.{Post}
 use Rattle.ff_memory.specs.Located.{IsLocated}
-use Rattle.ff_memory.specs.Memory.{IsMemorySound, MemoryView, entry_at, home_at, numbered}
+use Rattle.ff_memory.specs.Memory.{MemoryView, entry_at, home_at, numbered}
 use Rattle.ff_memory.specs.Places.{line_in_page, page_of, place_in_line, serving_frame, storing_frame}
 use Rattle.ff_memory.specs.Stores.{DrainsIf, IsDeviceStore, IsFrameStore, IsStore, IsStoreBy, IsStored, StoresBy, carries, is_store_refused}
 use Rattle.ff_memory.specs.declared.access.Access.TheVariants.{Served}
 use Rattle.ff_memory.specs.declared.access.Side.{Side}
 use Rattle.ff_memory.proofs.Flat.{flat-stored}
 use Rattle.ff_memory.proofs.Spans.{page-in_range}
-use Rattle.ff_model.specs.Flat.{bears, flat_byte_of, is_born, is_done}
+use Rattle.ff_model.specs.Flat.{bears, is_born, is_done}
 use Rattle.ff_model.specs.Legal.{Opening, due_reply, is_refused}
 use Rattle.ff_model.specs.Spans.{is_in_range}
 use Rattle.ff_model.specs.declared.history.Entry.{Entry}
 use Rattle.ff_model.specs.declared.op.Op.{Op}
 use Rattle.ff_model.specs.declared.op.Op.TheVariants.{Store}
-use Rattle.ff_model.specs.declared.op.Reply.{Reply}
 use Rattle.ff_model.specs.declared.op.Reply.TheVariants.{Done, Full}
 use Rattle.ff_model.proofs.Appended.{faults_after-append, is_born-append, legal-append}
 use Rattle.ff_model.proofs.AppendedCalls.{is_marked-append}
@@ -34,7 +33,7 @@ use Rattle.ff_calls.specs.Told.{IsTold}
 use Rattle.ff_calls.proofs.BornPages.{refused-told}
 use Rattle.ff_calls.proofs.DeviceReads.{device_byte-served, serving-posted, unmarked-framed}
 use Rattle.ff_calls.proofs.SpanBytes.{length-place}
-use Rattle.ff_calls.proofs.ToldAnswered.{IsCalled, served-follows, told-refused, within-op}
+use Rattle.ff_calls.proofs.ToldAnswered.{IsCalled, is_born-same, served-follows, told-refused, within-op}
 
 -- a store in range is answered now
 pub record IsStoreAnswered (opening : Opening) (entries : List Entry) (at : ℕ) (bytes : List ℕ) (m : MemoryView) (d : DeviceState)
@@ -56,10 +55,6 @@ or_true : (b : Bool) → true ≡ (b || true)
 or_true true = refl
 or_true false = refl
 
-or_false : (b : Bool) → b ≡ (b || false)
-or_false true = refl
-or_false false = refl
-
 -- the pages that are born once a store was answered Done
 born-stored : (opening : Opening) (entries : List Entry) (entry : Entry) (at : ℕ) (bytes : List ℕ) (m : MemoryView) (d : DeviceState)
     → IsStoreAnswered opening entries at bytes m d entry → entry.reply ≡ Done → (page : ℕ) → page < opening.pages
@@ -69,7 +64,6 @@ born-stored opening entries entry at bytes m d given done page within =
     let before : is_born_in m.table page ≡ is_born opening.base entries page = told.born page within in
     let size : length m.table.born ≡ opening.pages = given.called.sound.table_sound.born_or_not ∙ told.pages in
     let op = given.op in
-    let after = is_born-append opening.base entries entry page in
     elim (cases_eq page (page_of at)) [
       | inl same ↦
           let test : (page_of at == page) ≡ true = eq-eqb (page_of at) page (sym same) in
@@ -78,15 +72,12 @@ born-stored opening entries entry at bytes m d given done page within =
           ∙ get_or-set_same m.table.born (page_of at) true false (omega arith)
           ∙ or_true (is_born opening.base entries page)
           ∙ ap (λ (b : Bool). is_born opening.base entries page || b) (sym bears_it)
-          ∙ sym after
+          ∙ sym (is_born-append opening.base entries entry page)
       | inr other ↦
           let test : (page_of at == page) ≡ false = ne_eqb (page_of at) page (λ e. other (sym e)) in
           let bears_not : bears page entry ≡ false = rw (done, op) test in
           get_or-set_other m.table.born (page_of at) page true false other
-          ∙ before
-          ∙ or_false (is_born opening.base entries page)
-          ∙ ap (λ (b : Bool). is_born opening.base entries page || b) (sym bears_not)
-          ∙ sym after
+          ∙ before ∙ is_born-same opening entries entry page bears_not
     ]
 
 -- a store was answered Done
@@ -179,9 +170,9 @@ posted-keeps opening entries entry at bytes side m d m' d' given goes is =
           (record { line = omega arith; span = omega arith }) is.device refl (ap is_done done)
           (given.op ∙ store_of-at at bytes post refl refl refl refl)
           (λ address on_page on_line.
-              device_byte-served opening entries m d address told (omega arith)
-              (ap (λ (q : ℕ). serving_frame m q (line_in_page address)) on_page
-              ∙ ap (λ (j : ℕ). serving_frame m page j) on_line ∙ served))
+          device_byte-served opening entries m d address told (omega arith)
+          (ap (λ (q : ℕ). serving_frame m q (line_in_page address)) on_page
+          ∙ ap (λ (j : ℕ). serving_frame m page j) on_line ∙ served))
           told.keeping;
     }
 
