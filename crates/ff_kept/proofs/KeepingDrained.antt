@@ -1,34 +1,22 @@
 -- What a device keeps when posts are drained, at a step of work, and when a page is pinned.
-use Rattle.std.proofs.Common.{◌≡◌, ◌≢◌, ◌≤◌, ◌<◌, inl, inr, ℕ, ◌+◌, ◌-◌, ◌*◌, ◌/◌, ◌%◌, Bool, true, false, List, [], ◌∷◌, ◌++◌, Option, Some, None, length, take, drop, get_or, refl, sym, ap, subst, ◌∙◌, arith}
-use Rattle.std.specs.Prelude.{All, ◌&&◌, min, slice_index, unwrap_or}
+use Rattle.std.proofs.Common.{◌≡◌, inl, inr, ℕ, ◌/◌, ◌%◌, Bool, List, [], ◌++◌, take, drop, get_or, refl, sym, ap, subst}
+use Rattle.std.specs.Prelude.{All}
 use Rattle.std.proofs.Math.Path.{fun_ext}
-use Rattle.std.proofs.lemmas.Bool.{and_left, and_right}
 use Rattle.std.proofs.lemmas.List.{append-nil, take-append-drop}
-use Rattle.ff_base.specs.declared.numbers.PageNo.{PageNo}
-use Rattle.ff_base.specs.declared.numbers.TheConstants.{LINE_BYTES, PAGE_BYTES}
-use Rattle.ff_lines.specs.DeviceState.{AllDrained, DeviceState, Drains, IsDevice, IsDrained, IsPinned, IsPosted, SameLines, line_at}
-use Rattle.ff_lines.specs.Posts.{IsPost, laid}
+use Rattle.ff_lines.specs.DeviceState.{AllDrained, DeviceState, Drains, IsDevice, IsDrained, IsPinned, SameLines}
+use Rattle.ff_lines.specs.Posts.{laid}
 use Rattle.ff_lines.specs.Works.{KeepsLines}
 use Rattle.ff_lines.specs.declared.post.Post.{Post}
-use Rattle.ff_model.specs.Callers.{acknowledges, is_marked}
-use Rattle.ff_model.specs.Flat.{covering_byte, flat_byte_of, is_done, stored_byte}
-use Rattle.ff_model.specs.Image.{Content, byte_at}
+use Rattle.ff_model.specs.Image.{Content}
 use Rattle.ff_model.specs.Legal.{IsLegal, Opening}
 use Rattle.ff_model.specs.declared.history.Entry.{Entry}
-use Rattle.ff_model.specs.declared.op.Op.{Op}
-use Rattle.ff_model.specs.declared.op.Op.TheVariants.{Load, Store, Verify, Mark, Release}
-use Rattle.ff_kept.specs.Keeping.{IsKeeping, IsKeepingDevice, PowerLossKeeps}
-use Rattle.ff_kept.specs.Marked.{is_marked_store, marked_at, stores_marked}
-use Rattle.ff_kept.specs.Posted.{below_byte, byte_in_lines, byte_over, device_byte, posted_byte, store_of}
-use Rattle.ff_kept.specs.Waiting.{LeavesMarked, kept_length}
-use Rattle.ff_kept.proofs.Acknowledging.{keeps-acknowledged, keeps-fewer, keeps-opened}
+use Rattle.ff_kept.specs.Keeping.{IsKeeping, IsKeepingDevice}
+use Rattle.ff_kept.specs.Marked.{marked_at}
+use Rattle.ff_kept.specs.Posted.{below_byte, byte_over}
 use Rattle.ff_kept.proofs.Apart.{IsApart, apart}
-use Rattle.ff_kept.proofs.Draining.{byte_over-append, keeps-drained}
-use Rattle.ff_kept.proofs.Growing.{keeps-entry}
-use Rattle.ff_kept.proofs.LineBytes.{below_byte-drains, byte_in_lines-laid, device_byte-over}
-use Rattle.ff_kept.proofs.Losing.{keeps-lost}
-use Rattle.ff_kept.proofs.Marks.{marked_at-by_line, marked_at-silent}
-use Rattle.ff_kept.proofs.Posting.{keeps-landed, keeps-stored, line_number, posted_byte-other}
+use Rattle.ff_kept.proofs.Draining.{keeps-drained}
+use Rattle.ff_kept.proofs.LineBytes.{below_byte-drains}
+use Rattle.ff_kept.proofs.Marks.{marked_at-by_line}
 
 -- each entry of a legal history leaves the bytes of the marked lines, unless it is a store to one
 pub legal-apart : (opening : Opening) (history : List Entry) → IsLegal opening history
@@ -93,7 +81,7 @@ pub keeping-same : (base : Content) (history : List Entry) (old new : DeviceStat
 keeping-same base history old new same keeping =
     same-keeping base history (marked_at base history) old.posts new.posts (below_byte old) (below_byte new) (sym same.posts)
     (λ address. ap (λ (bytes : List ℕ). get_or bytes (address % 64) 0)
-        (sym (same.below (address / 4096) (address % 4096 / 64)))) keeping
+    (sym (same.below (address / 4096) (address % 4096 / 64)))) keeping
 
 -- a step of work
 pub keeping-worked : (opening : Opening) (history : List Entry) (old new : DeviceState) → IsLegal opening history

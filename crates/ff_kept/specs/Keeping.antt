@@ -56,4 +56,4 @@ pub record KeepsAt (posts : List Post) (arrive entries kept : ℕ) : Type 0 wher
       → IsLegal opening history → length history ≡ entries → length posts ≤ arrive + lost
       → IsKeeping opening.base history (marked_at opening.base history) posts below
       → PowerLossKeeps opening.base history (marked_at opening.base history)
-          (λ address. byte_over address (take arrive posts) (below address)) kept lost
+      (λ address. byte_over address (take arrive posts) (below address)) kept lost
