@@ -18,7 +18,7 @@ use Rattle.ff_kept.specs.Posted.{below_byte, device_byte}
 use Rattle.ff_kept.proofs.Acknowledging.{keeps-acknowledged, keeps-fewer, keeps-opened}
 use Rattle.ff_kept.proofs.Growing.{keeps-entry}
 use Rattle.ff_kept.proofs.Marks.{marked_at-silent}
-use Rattle.ff_kept.proofs.KeepingDrained.{same-keeping}
+use Rattle.ff_kept.proofs.KeepingDrained.{same-posts}
 
 -- an entry that acknowledges nothing may clear marks
 pub fewer-marked : (base : Content) (history : List Entry) (entry : Entry) (posts : List Post) (below : ℕ → ℕ)
@@ -87,15 +87,14 @@ pub keeping-acknowledged : (base : Content) (history : List Entry) (entry : Entr
 keeping-acknowledged base history entry d op none reads keeping =
     let below : (address : ℕ) → below_byte d address ≡ device_byte d address =
     λ address. ap (λ (posts : List Post). get_or (laid (address / 4096) (address % 4096 / 64) posts (d.below (address / 4096) (address % 4096 / 64))) (address % 64) 0) (sym none) in
-    same-keeping base (history ++ entry ∷ []) (marked_at base (history ++ entry ∷ [])) [] d.posts (below_byte d) (below_byte d)
-    (sym none) (λ address. refl)
+    same-posts base (history ++ entry ∷ []) (marked_at base (history ++ entry ∷ [])) [] d.posts (below_byte d) (sym none)
     (keeps-acknowledged base history entry (marked_at base history) (marked_at base (history ++ entry ∷ [])) (below_byte d)
     (λ address. stored_byte-none address entry op) (λ address is. below address ∙ reads address is)
-    (same-keeping base history (marked_at base history) d.posts [] (below_byte d) (below_byte d) none (λ address. refl) keeping))
+    (same-posts base history (marked_at base history) d.posts [] (below_byte d) none keeping))
 
 -- a session begins: the device reads as the base
 pub keeping-opened : (base : Content) (d : DeviceState) → d.posts ≡ []
     → ((address : ℕ) → below_byte d address ≡ byte_at base address) → IsKeepingDevice base [] d
 keeping-opened base d none reads =
-    same-keeping base [] (marked_at base []) [] d.posts (below_byte d) (below_byte d) (sym none) (λ address. refl)
+    same-posts base [] (marked_at base []) [] d.posts (below_byte d) (sym none)
     (keeps-opened base (marked_at base []) (below_byte d) reads)

@@ -1,5 +1,5 @@
 -- What a device keeps when posts are drained, at a step of work, and when a page is pinned.
-use Rattle.std.proofs.Common.{◌≡◌, inl, inr, ℕ, ◌/◌, ◌%◌, Bool, List, [], ◌++◌, take, drop, get_or, refl, sym, ap, subst}
+use Rattle.std.proofs.Common.{◌≡◌, inl, inr, ℕ, ◌/◌, ◌%◌, Bool, List, [], ◌++◌, take, drop, get_or, sym, ap, subst}
 use Rattle.std.specs.Prelude.{All}
 use Rattle.std.proofs.Math.Path.{fun_ext}
 use Rattle.std.proofs.lemmas.List.{append-nil, take-append-drop}
@@ -24,12 +24,17 @@ pub legal-apart : (opening : Opening) (history : List Entry) → IsLegal opening
 legal-apart opening history legal =
     apart (marked_at opening.base history) opening history (marked_at-by_line opening.base history) legal
 
--- the same posts over the same bytes
-pub same-keeping : (base : Content) (history : List Entry) (marked : ℕ → Bool) (xs ys : List Post) (f g : ℕ → ℕ) → xs ≡ ys
-    → ((address : ℕ) → f address ≡ g address) → IsKeeping base history marked xs f → IsKeeping base history marked ys g
-same-keeping base history marked xs ys f g posts bytes keeping =
-    subst (λ (all : List Post). IsKeeping base history marked all g) posts
-    (subst (λ (below : ℕ → ℕ). IsKeeping base history marked xs below) (fun_ext bytes) keeping)
+-- the same posts
+pub same-posts : (base : Content) (history : List Entry) (marked : ℕ → Bool) (xs ys : List Post) (below : ℕ → ℕ) → xs ≡ ys
+    → IsKeeping base history marked xs below → IsKeeping base history marked ys below
+same-posts base history marked xs ys below same =
+    subst (λ (posts : List Post). IsKeeping base history marked posts below) same
+
+-- the same bytes
+same-bytes : (base : Content) (history : List Entry) (marked : ℕ → Bool) (posts : List Post) (f g : ℕ → ℕ)
+    → ((address : ℕ) → f address ≡ g address) → IsKeeping base history marked posts f → IsKeeping base history marked posts g
+same-bytes base history marked posts f g same =
+    subst (λ (below : ℕ → ℕ). IsKeeping base history marked posts below) (fun_ext same)
 
 -- the posts that wait after the oldest were drained, and the bytes below them
 pub keeps-rest : (opening : Opening) (history : List Entry) (drained kept : List Post) (old new : DeviceState)
@@ -37,19 +42,18 @@ pub keeps-rest : (opening : Opening) (history : List Entry) (drained kept : List
     → IsKeeping opening.base history (marked_at opening.base history) kept (below_byte new)
 keeps-rest opening history drained kept old new legal is drains keeping =
     let marked : ℕ → Bool = marked_at opening.base history in
-    same-keeping opening.base history marked kept kept (λ address. byte_over address drained (below_byte old address))
-    (below_byte new) refl (λ address. sym (below_byte-drains drained kept old new address is drains))
+    same-bytes opening.base history marked kept (λ address. byte_over address drained (below_byte old address))
+    (below_byte new) (λ address. sym (below_byte-drains drained kept old new address is drains))
     (keeps-drained opening.base history marked drained kept (below_byte old) (legal-apart opening history legal)
-    (same-keeping opening.base history marked old.posts (drained ++ kept) (below_byte old) (below_byte old) drains.split
-    (λ address. refl) keeping))
+    (same-posts opening.base history marked old.posts (drained ++ kept) (below_byte old) drains.split keeping))
 
 -- the oldest posts were drained, and the others wait
 pub keeping-drains : (opening : Opening) (history : List Entry) (drained kept : List Post) (old new : DeviceState)
     → IsLegal opening history → IsDevice old → Drains drained kept old new → new.posts ≡ kept
     → IsKeepingDevice opening.base history old → IsKeepingDevice opening.base history new
 keeping-drains opening history drained kept old new legal is drains posts keeping =
-    same-keeping opening.base history (marked_at opening.base history) kept new.posts (below_byte new) (below_byte new)
-    (sym posts) (λ address. refl) (keeps-rest opening history drained kept old new legal is drains keeping)
+    same-posts opening.base history (marked_at opening.base history) kept new.posts (below_byte new) (sym posts)
+    (keeps-rest opening history drained kept old new legal is drains keeping)
 
 -- so many of the oldest posts were drained
 pub keeping-first_drained : (opening : Opening) (history : List Entry) (count : ℕ) (old new : DeviceState)
@@ -79,9 +83,11 @@ keeping-drained opening history old new legal is drained keeping =
 pub keeping-same : (base : Content) (history : List Entry) (old new : DeviceState) → SameLines old new
     → IsKeepingDevice base history old → IsKeepingDevice base history new
 keeping-same base history old new same keeping =
-    same-keeping base history (marked_at base history) old.posts new.posts (below_byte old) (below_byte new) (sym same.posts)
+    let marked : ℕ → Bool = marked_at base history in
+    same-bytes base history marked new.posts (below_byte old) (below_byte new)
     (λ address. ap (λ (bytes : List ℕ). get_or bytes (address % 64) 0)
-    (sym (same.below (address / 4096) (address % 4096 / 64)))) keeping
+    (sym (same.below (address / 4096) (address % 4096 / 64))))
+    (same-posts base history marked old.posts new.posts (below_byte old) (sym same.posts) keeping)
 
 -- a step of work
 pub keeping-worked : (opening : Opening) (history : List Entry) (old new : DeviceState) → IsLegal opening history

@@ -20,7 +20,7 @@ use Rattle.ff_kept.specs.Waiting.{LeavesMarked}
 use Rattle.ff_kept.proofs.Draining.{byte_over-append}
 use Rattle.ff_kept.proofs.LineBytes.{below_byte-drains, device_byte-over}
 use Rattle.ff_kept.proofs.Posting.{keeps-landed, keeps-stored, line_number, posted_byte-other}
-use Rattle.ff_kept.proofs.KeepingDrained.{keeps-rest, same-keeping}
+use Rattle.ff_kept.proofs.KeepingDrained.{keeps-rest, same-posts}
 use Rattle.ff_kept.proofs.KeepingAnswered.{fewer-marked}
 
 -- the store of a post at the page, the line and the offset of an address
@@ -32,12 +32,16 @@ store_of-at at bytes post page line from same =
     ap (λ (a : ℕ). Store a bytes) whole
     ∙ ap (λ (l : List ℕ). Store (4096 * post.page.0 + (64 * post.line + post.from)) l) (sym same)
 
+-- a line of a page reads as after the whole history
+abbrev pub IsFlatLine : Content → List Entry → ℕ → ℕ → (ℕ → ℕ) → Type 0
+IsFlatLine base history page line byte = (address : ℕ) → address / PAGE_BYTES ≡ page
+    → address % PAGE_BYTES / LINE_BYTES ≡ line → byte address ≡ flat_byte_of base history address
+
 -- a store of a caller was posted, and its line read as the history says
 pub keeping-stored : (opening : Opening) (history : List Entry) (entry : Entry) (post : Post) (old new : DeviceState)
     → IsLegal opening history → IsDevice old → IsPost post → IsPosted post old new
     → post.position ≡ Some (length history) → is_done entry.reply ≡ true → entry.op ≡ store_of post
-    → ((address : ℕ) → address / PAGE_BYTES ≡ post.page.0 → address % PAGE_BYTES / LINE_BYTES ≡ post.line
-    → device_byte old address ≡ flat_byte_of opening.base history address)
+    → IsFlatLine opening.base history post.page.0 post.line (device_byte old)
     → IsKeepingDevice opening.base history old → IsKeepingDevice opening.base (history ++ entry ∷ []) new
 keeping-stored opening history entry post old new legal is fits posted position done store right keeping =
     let base = opening.base in
@@ -53,8 +57,8 @@ keeping-stored opening history entry post old new legal is fits posted position 
     ∙ ap (λ (posts : List Post). byte_over address posts (below_byte old address)) (sym split)
     ∙ sym (device_byte-over old address is)
     ∙ right address (omega arith) (omega arith) in
-    same-keeping base (history ++ entry ∷ []) (marked_at base (history ++ entry ∷ [])) (posted.kept ++ post ∷ []) new.posts
-    (below_byte new) (below_byte new) (sym posted.posts) (λ address. refl)
+    same-posts base (history ++ entry ∷ []) (marked_at base (history ++ entry ∷ [])) (posted.kept ++ post ∷ []) new.posts
+    (below_byte new) (sym posted.posts)
     (fewer-marked base history entry (posted.kept ++ post ∷ []) (below_byte new) silent
     (keeps-stored base history entry marked posted.kept post (below_byte new) fits position done store before
     (keeps-rest opening history posted.drained posted.kept old new legal is posted.drains keeping)))
@@ -83,12 +87,11 @@ byte-whole address post byte first size on =
     slice_get-get_or post.bytes (address % 64) 0 (omega arith) in
     rw (test, offset, found) refl
 
--- a whole line of a page that went back was posted: it isn't marked, and the post has the flat bytes
+-- a landed line of a retreat was posted: the whole line, which isn't marked, with the flat bytes
 pub keeping-landed : (opening : Opening) (history : List Entry) (post : Post) (old new : DeviceState)
     → IsLegal opening history → IsDevice old → IsPost post → IsPosted post old new → post.position ≡ None
     → is_marked opening.base history post.page.0 post.line ≡ false → post.from ≡ 0 → length post.bytes ≡ LINE_BYTES
-    → ((address : ℕ) → address / PAGE_BYTES ≡ post.page.0 → address % PAGE_BYTES / LINE_BYTES ≡ post.line
-    → slice_index post.bytes (address % LINE_BYTES) ≡ flat_byte_of opening.base history address)
+    → IsFlatLine opening.base history post.page.0 post.line (λ address. slice_index post.bytes (address % LINE_BYTES))
     → IsKeepingDevice opening.base history old → IsKeepingDevice opening.base history new
 keeping-landed opening history post old new legal is fits posted position unmarked first size right keeping =
     let base = opening.base in
@@ -100,8 +103,7 @@ keeping-landed opening history post old new legal is fits posted position unmark
     byte_over-append address posted.kept (post ∷ []) (below_byte new address)
     ∙ byte-whole address post (byte_over address posted.kept (below_byte new address)) first size on
     ∙ right address (omega arith) (omega arith) in
-    same-keeping base history marked (posted.kept ++ post ∷ []) new.posts (below_byte new) (below_byte new)
-    (sym posted.posts) (λ address. refl)
+    same-posts base history marked (posted.kept ++ post ∷ []) new.posts (below_byte new) (sym posted.posts)
     (keeps-landed base history marked posted.kept post (below_byte new) fits position
     (leaves_marked base history post fits unmarked) after
     (keeps-rest opening history posted.drained posted.kept old new legal is posted.drains keeping))

@@ -1,4 +1,4 @@
--- A post is put behind the others: a caller's store, or a line of a page that went back to the device.
+-- A post is put behind the others: a caller's store, or a landed line of a retreat.
 use Rattle.std.proofs.Common.{◌≡◌, ◌≢◌, ◌≤◌, inl, inr, ℕ, ◌+◌, ◌*◌, ◌/◌, Bool, true, false, List, [], ◌∷◌, ◌++◌, Option, Some, None, length, drop, refl, sym, ap, subst, ◌∙◌, length-append, arith}
 use Rattle.std.specs.Prelude.{◌&&◌, slice_range, unwrap_or}
 use Rattle.std.proofs.lemmas.Bool.{cases_eq, cases_lt}
@@ -105,7 +105,7 @@ keeps-stored base history entry marked posts post below is position done store r
     (acknowledged_length-same history entry silent) (waits-last marked history entry post position done store)
     (past-posted base history (entry ∷ []) marked posts post below is after keeping) keeping
 
--- a line of a page that went back was posted: it isn't marked, and then it has the flat bytes
+-- a landed line of a retreat was posted: it isn't marked, and then it has the flat bytes
 pub keeps-landed : (base : Content) (history : List Entry) (marked : ℕ → Bool) (posts : List Post) (post : Post) (below : ℕ → ℕ)
     → IsPost post → post.position ≡ None → LeavesMarked marked post
     → ((address : ℕ) → address / 64 ≡ line_number post

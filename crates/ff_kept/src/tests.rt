@@ -4,13 +4,6 @@ use ff_base::PageNo;
 use ff_lines::Post;
 use ff_model::Piece;
 
-// How many entries there are, how many posts arrive, and how many entries are kept.
-struct Row {
-    entries: u32,
-    arrive: u32,
-    kept: u32,
-}
-
 fn post(position: Option<u32>) -> Post {
     Post {
         page: PageNo(0),
@@ -21,44 +14,13 @@ fn post(position: Option<u32>) -> Post {
     }
 }
 
-// After a mark two stores wait, and then one more behind a line of a page that went back to the device.
-const ROWS: [Row; 6] = [
-    Row {
-        entries: 7,
-        arrive: 0,
-        kept: 1,
-    },
-    Row {
-        entries: 7,
-        arrive: 1,
-        kept: 2,
-    },
-    Row {
-        entries: 7,
-        arrive: 2,
-        kept: 5,
-    },
-    Row {
-        entries: 7,
-        arrive: 3,
-        kept: 5,
-    },
-    Row {
-        entries: 7,
-        arrive: 4,
-        kept: 7,
-    },
-    Row {
-        entries: 7,
-        arrive: 9,
-        kept: 7,
-    },
-];
+// How many posts arrive, and how many of seven entries are then kept.
+const KEPT: [(u32, u32); 6] = [(0, 1), (1, 2), (2, 5), (3, 5), (4, 7), (9, 7)];
 
 #[test]
 fn entries_before_the_first_lost_store_are_kept(rt: HostRuntime) {
     let posts = [post(Some(1)), post(Some(2)), post(None), post(Some(5))];
-    for row in &ROWS {
-        assert_eq!(rt; kept_length(&posts, row.arrive, row.entries), row.kept);
+    for (arrive, kept) in &KEPT {
+        assert_eq!(rt; kept_length(&posts, *arrive, 7), *kept);
     }
 }
