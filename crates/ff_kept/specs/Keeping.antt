@@ -47,7 +47,8 @@ pub record IsKeeping (base : Content) (history : List Entry) (marked : ℕ → B
 
 -- the same of a device, for the lines that are marked after the history
 abbrev pub IsKeepingDevice : Content → List Entry → DeviceState → Type 0
-IsKeepingDevice base history d = IsKeeping base history (marked_at base history) d.posts (below_byte d)
+IsKeepingDevice base history d =
+    IsKeeping base history (marked_at base history) d.posts (below_byte d)
 
 -- a power loss at which the oldest `arrive` posts arrive, and the others are lost, keeps the first `kept` of so many
 -- entries, whatever the legal history and the bytes below the posts are
