@@ -1,5 +1,5 @@
 -- Every store is acknowledged with nothing waiting, marks are cleared, a session begins.
-use Rattle.std.proofs.Common.{◌≡◌, ◌≤◌, inl, inr, ℕ, ◌+◌, Bool, true, false, List, [], ◌∷◌, ◌++◌, None, length, take, drop, refl, sym, ap, ◌∙◌, length-append, arith}
+use Rattle.std.proofs.Common.{◌≡◌, ◌≤◌, inl, inr, ℕ, ◌+◌, Bool, true, List, [], ◌∷◌, ◌++◌, None, length, take, refl, sym, ap, ◌∙◌, length-append, arith}
 use Rattle.std.specs.Prelude.{◌&&◌, unwrap_or}
 use Rattle.std.proofs.lemmas.Bool.{cases_Bool}
 use Rattle.std.proofs.lemmas.List.{drop_all, take_all}
@@ -10,7 +10,7 @@ use Rattle.ff_model.specs.Image.{Content, byte_at}
 use Rattle.ff_model.specs.declared.history.Entry.{Entry}
 use Rattle.ff_model.proofs.Appended.{flat_byte_of-append}
 use Rattle.ff_model.proofs.AppendedCalls.{acknowledged_length-append}
-use Rattle.ff_kept.specs.Keeping.{IsKeeping, IsPast}
+use Rattle.ff_kept.specs.Keeping.{IsKeeping}
 use Rattle.ff_kept.specs.Marked.{marked_stores}
 use Rattle.ff_kept.specs.Posted.{byte_over}
 use Rattle.ff_kept.proofs.Growing.{acknowledged_length-same, past-laid, past-longer}

@@ -1,5 +1,5 @@
 -- The history grows by entries, and at most one more post waits.
-use Rattle.std.proofs.Common.{◌≡◌, ◌≤◌, inl, inr, ℕ, Bool, true, false, cond, List, [], ◌∷◌, ◌++◌, length, take, drop, refl, sym, ap, subst, ◌∙◌, length-append, arith}
+use Rattle.std.proofs.Common.{◌≡◌, ◌≤◌, inl, inr, ℕ, Bool, false, cond, List, [], ◌∷◌, ◌++◌, length, take, drop, refl, sym, ap, subst, ◌∙◌, length-append, arith}
 use Rattle.std.specs.Prelude.{◌&&◌}
 use Rattle.std.proofs.lemmas.Bool.{cases_lt}
 use Rattle.std.proofs.lemmas.List.{append-nil, drop-append-le, take-append-le, take_all}
@@ -44,7 +44,7 @@ past-laid base history below xs ys same past =
 pub keeps-longer : (base : Content) (history later : List Entry) (marked : ℕ → Bool) (posts tail : List Post) (below : ℕ → ℕ)
     → length tail ≤ 1 → acknowledged_length (history ++ later) ≡ acknowledged_length history
     → ((from : ℕ) → from ≤ length history → marked_stores marked (drop from history) ≡ 0
-        → AllWait marked (history ++ later) from tail)
+    → AllWait marked (history ++ later) from tail)
     → IsPast base (history ++ later) (λ address. byte_over address (posts ++ tail) (below address))
     → IsKeeping base history marked posts below → IsKeeping base (history ++ later) marked (posts ++ tail) below
 keeps-longer base history later marked posts tail below few same last laid keeping =

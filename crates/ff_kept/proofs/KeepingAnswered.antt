@@ -1,36 +1,25 @@
 -- What a device keeps when a call is answered and nothing is posted, and when a session begins.
-use Rattle.std.proofs.Common.{◌≡◌, ◌≢◌, ◌≤◌, ◌<◌, inl, inr, ℕ, ◌+◌, ◌-◌, ◌*◌, ◌/◌, ◌%◌, Bool, true, false, List, [], ◌∷◌, ◌++◌, Option, Some, None, length, take, drop, get_or, refl, sym, ap, subst, ◌∙◌, arith}
-use Rattle.std.specs.Prelude.{All, ◌&&◌, min, slice_index, unwrap_or}
-use Rattle.std.proofs.Math.Path.{fun_ext}
+use Rattle.std.proofs.Common.{◌≡◌, inl, inr, ℕ, ◌/◌, ◌%◌, true, false, List, [], ◌∷◌, ◌++◌, None, get_or, refl, sym, ap, ◌∙◌}
+use Rattle.std.specs.Prelude.{◌&&◌}
 use Rattle.std.proofs.lemmas.Bool.{and_left, and_right, cases_Bool}
-use Rattle.std.proofs.lemmas.List.{append-nil}
 use Rattle.ff_base.specs.declared.numbers.PageNo.{PageNo}
-use Rattle.ff_base.specs.declared.numbers.TheConstants.{LINE_BYTES, PAGE_BYTES}
-use Rattle.ff_lines.specs.DeviceState.{AllDrained, DeviceState, Drains, IsDevice, IsDrained, IsPinned, IsPosted, SameLines, line_at}
-use Rattle.ff_lines.specs.Posts.{IsPost, laid}
-use Rattle.ff_lines.specs.Works.{KeepsLines}
+use Rattle.ff_lines.specs.DeviceState.{DeviceState}
+use Rattle.ff_lines.specs.Posts.{laid}
 use Rattle.ff_lines.specs.declared.post.Post.{Post}
-use Rattle.ff_model.specs.Callers.{acknowledges, is_marked}
+use Rattle.ff_model.specs.Callers.{acknowledges}
 use Rattle.ff_model.specs.Flat.{covering_byte, flat_byte_of, is_done, stored_byte}
 use Rattle.ff_model.specs.Image.{Content, byte_at}
-use Rattle.ff_model.specs.Legal.{IsLegal, Opening}
 use Rattle.ff_model.specs.declared.history.Entry.{Entry}
 use Rattle.ff_model.specs.declared.op.Op.{Op}
 use Rattle.ff_model.specs.declared.op.Op.TheVariants.{Load, Store, Verify, Mark, Release}
-use Rattle.ff_kept.specs.Keeping.{IsKeeping, IsKeepingDevice, PowerLossKeeps}
+use Rattle.ff_kept.specs.Keeping.{IsKeeping, IsKeepingDevice}
 use Rattle.ff_kept.specs.Marked.{is_marked_store, marked_at, stores_marked}
-use Rattle.ff_kept.specs.Posted.{below_byte, byte_in_lines, byte_over, device_byte, posted_byte, store_of}
-use Rattle.ff_kept.specs.Waiting.{LeavesMarked, kept_length}
+use Rattle.ff_kept.specs.Posted.{below_byte, device_byte}
 use Rattle.ff_kept.proofs.Acknowledging.{keeps-acknowledged, keeps-fewer, keeps-opened}
-use Rattle.ff_kept.proofs.Apart.{IsApart, apart}
-use Rattle.ff_kept.proofs.Draining.{byte_over-append, keeps-drained}
 use Rattle.ff_kept.proofs.Growing.{keeps-entry}
-use Rattle.ff_kept.proofs.LineBytes.{below_byte-drains, byte_in_lines-laid, device_byte-over}
-use Rattle.ff_kept.proofs.Losing.{keeps-lost}
-use Rattle.ff_kept.proofs.Marks.{marked_at-by_line, marked_at-silent}
-use Rattle.ff_kept.proofs.Posting.{keeps-landed, keeps-stored, line_number, posted_byte-other}
+use Rattle.ff_kept.proofs.Marks.{marked_at-silent}
+use Rattle.ff_kept.proofs.KeepingDrained.{same-posts}
 
-use Rattle.ff_kept.proofs.KeepingDrained.{keeps-rest, legal-apart, same-keeping}
 -- an entry that acknowledges nothing may clear marks
 pub fewer-marked : (base : Content) (history : List Entry) (entry : Entry) (posts : List Post) (below : ℕ → ℕ)
     → (is_done entry.reply && acknowledges entry.op) ≡ false
@@ -93,20 +82,19 @@ stored_byte-none address entry acknowledged = elim (cases_Bool (is_done entry.re
 pub keeping-acknowledged : (base : Content) (history : List Entry) (entry : Entry) (d : DeviceState)
     → acknowledges entry.op ≡ true → d.posts ≡ []
     → ((address : ℕ) → marked_at base (history ++ entry ∷ []) address ≡ true
-        → device_byte d address ≡ flat_byte_of base history address)
+    → device_byte d address ≡ flat_byte_of base history address)
     → IsKeepingDevice base history d → IsKeepingDevice base (history ++ entry ∷ []) d
 keeping-acknowledged base history entry d op none reads keeping =
     let below : (address : ℕ) → below_byte d address ≡ device_byte d address =
     λ address. ap (λ (posts : List Post). get_or (laid (address / 4096) (address % 4096 / 64) posts (d.below (address / 4096) (address % 4096 / 64))) (address % 64) 0) (sym none) in
-    same-keeping base (history ++ entry ∷ []) (marked_at base (history ++ entry ∷ [])) [] d.posts (below_byte d) (below_byte d)
-    (sym none) (λ address. refl)
+    same-posts base (history ++ entry ∷ []) (marked_at base (history ++ entry ∷ [])) [] d.posts (below_byte d) (sym none)
     (keeps-acknowledged base history entry (marked_at base history) (marked_at base (history ++ entry ∷ [])) (below_byte d)
     (λ address. stored_byte-none address entry op) (λ address is. below address ∙ reads address is)
-    (same-keeping base history (marked_at base history) d.posts [] (below_byte d) (below_byte d) none (λ address. refl) keeping))
+    (same-posts base history (marked_at base history) d.posts [] (below_byte d) none keeping))
 
 -- a session begins: the device reads as the base
 pub keeping-opened : (base : Content) (d : DeviceState) → d.posts ≡ []
     → ((address : ℕ) → below_byte d address ≡ byte_at base address) → IsKeepingDevice base [] d
 keeping-opened base d none reads =
-    same-keeping base [] (marked_at base []) [] d.posts (below_byte d) (below_byte d) (sym none) (λ address. refl)
+    same-posts base [] (marked_at base []) [] d.posts (below_byte d) (sym none)
     (keeps-opened base (marked_at base []) (below_byte d) reads)

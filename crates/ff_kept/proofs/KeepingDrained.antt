@@ -1,34 +1,22 @@
 -- What a device keeps when posts are drained, at a step of work, and when a page is pinned.
-use Rattle.std.proofs.Common.{◌≡◌, ◌≢◌, ◌≤◌, ◌<◌, inl, inr, ℕ, ◌+◌, ◌-◌, ◌*◌, ◌/◌, ◌%◌, Bool, true, false, List, [], ◌∷◌, ◌++◌, Option, Some, None, length, take, drop, get_or, refl, sym, ap, subst, ◌∙◌, arith}
-use Rattle.std.specs.Prelude.{All, ◌&&◌, min, slice_index, unwrap_or}
+use Rattle.std.proofs.Common.{◌≡◌, inl, inr, ℕ, ◌/◌, ◌%◌, Bool, List, [], ◌++◌, take, drop, get_or, sym, ap, subst}
+use Rattle.std.specs.Prelude.{All}
 use Rattle.std.proofs.Math.Path.{fun_ext}
-use Rattle.std.proofs.lemmas.Bool.{and_left, and_right}
 use Rattle.std.proofs.lemmas.List.{append-nil, take-append-drop}
-use Rattle.ff_base.specs.declared.numbers.PageNo.{PageNo}
-use Rattle.ff_base.specs.declared.numbers.TheConstants.{LINE_BYTES, PAGE_BYTES}
-use Rattle.ff_lines.specs.DeviceState.{AllDrained, DeviceState, Drains, IsDevice, IsDrained, IsPinned, IsPosted, SameLines, line_at}
-use Rattle.ff_lines.specs.Posts.{IsPost, laid}
+use Rattle.ff_lines.specs.DeviceState.{AllDrained, DeviceState, Drains, IsDevice, IsDrained, IsPinned, SameLines}
+use Rattle.ff_lines.specs.Posts.{laid}
 use Rattle.ff_lines.specs.Works.{KeepsLines}
 use Rattle.ff_lines.specs.declared.post.Post.{Post}
-use Rattle.ff_model.specs.Callers.{acknowledges, is_marked}
-use Rattle.ff_model.specs.Flat.{covering_byte, flat_byte_of, is_done, stored_byte}
-use Rattle.ff_model.specs.Image.{Content, byte_at}
+use Rattle.ff_model.specs.Image.{Content}
 use Rattle.ff_model.specs.Legal.{IsLegal, Opening}
 use Rattle.ff_model.specs.declared.history.Entry.{Entry}
-use Rattle.ff_model.specs.declared.op.Op.{Op}
-use Rattle.ff_model.specs.declared.op.Op.TheVariants.{Load, Store, Verify, Mark, Release}
-use Rattle.ff_kept.specs.Keeping.{IsKeeping, IsKeepingDevice, PowerLossKeeps}
-use Rattle.ff_kept.specs.Marked.{is_marked_store, marked_at, stores_marked}
-use Rattle.ff_kept.specs.Posted.{below_byte, byte_in_lines, byte_over, device_byte, posted_byte, store_of}
-use Rattle.ff_kept.specs.Waiting.{LeavesMarked, kept_length}
-use Rattle.ff_kept.proofs.Acknowledging.{keeps-acknowledged, keeps-fewer, keeps-opened}
+use Rattle.ff_kept.specs.Keeping.{IsKeeping, IsKeepingDevice}
+use Rattle.ff_kept.specs.Marked.{marked_at}
+use Rattle.ff_kept.specs.Posted.{below_byte, byte_over}
 use Rattle.ff_kept.proofs.Apart.{IsApart, apart}
-use Rattle.ff_kept.proofs.Draining.{byte_over-append, keeps-drained}
-use Rattle.ff_kept.proofs.Growing.{keeps-entry}
-use Rattle.ff_kept.proofs.LineBytes.{below_byte-drains, byte_in_lines-laid, device_byte-over}
-use Rattle.ff_kept.proofs.Losing.{keeps-lost}
-use Rattle.ff_kept.proofs.Marks.{marked_at-by_line, marked_at-silent}
-use Rattle.ff_kept.proofs.Posting.{keeps-landed, keeps-stored, line_number, posted_byte-other}
+use Rattle.ff_kept.proofs.Draining.{keeps-drained}
+use Rattle.ff_kept.proofs.LineBytes.{below_byte-drains}
+use Rattle.ff_kept.proofs.Marks.{marked_at-by_line}
 
 -- each entry of a legal history leaves the bytes of the marked lines, unless it is a store to one
 pub legal-apart : (opening : Opening) (history : List Entry) → IsLegal opening history
@@ -36,12 +24,17 @@ pub legal-apart : (opening : Opening) (history : List Entry) → IsLegal opening
 legal-apart opening history legal =
     apart (marked_at opening.base history) opening history (marked_at-by_line opening.base history) legal
 
--- the same posts over the same bytes
-pub same-keeping : (base : Content) (history : List Entry) (marked : ℕ → Bool) (xs ys : List Post) (f g : ℕ → ℕ) → xs ≡ ys
-    → ((address : ℕ) → f address ≡ g address) → IsKeeping base history marked xs f → IsKeeping base history marked ys g
-same-keeping base history marked xs ys f g posts bytes keeping =
-    subst (λ (all : List Post). IsKeeping base history marked all g) posts
-    (subst (λ (below : ℕ → ℕ). IsKeeping base history marked xs below) (fun_ext bytes) keeping)
+-- the same posts
+pub same-posts : (base : Content) (history : List Entry) (marked : ℕ → Bool) (xs ys : List Post) (below : ℕ → ℕ) → xs ≡ ys
+    → IsKeeping base history marked xs below → IsKeeping base history marked ys below
+same-posts base history marked xs ys below same =
+    subst (λ (posts : List Post). IsKeeping base history marked posts below) same
+
+-- the same bytes
+same-bytes : (base : Content) (history : List Entry) (marked : ℕ → Bool) (posts : List Post) (f g : ℕ → ℕ)
+    → ((address : ℕ) → f address ≡ g address) → IsKeeping base history marked posts f → IsKeeping base history marked posts g
+same-bytes base history marked posts f g same =
+    subst (λ (below : ℕ → ℕ). IsKeeping base history marked posts below) (fun_ext same)
 
 -- the posts that wait after the oldest were drained, and the bytes below them
 pub keeps-rest : (opening : Opening) (history : List Entry) (drained kept : List Post) (old new : DeviceState)
@@ -49,19 +42,18 @@ pub keeps-rest : (opening : Opening) (history : List Entry) (drained kept : List
     → IsKeeping opening.base history (marked_at opening.base history) kept (below_byte new)
 keeps-rest opening history drained kept old new legal is drains keeping =
     let marked : ℕ → Bool = marked_at opening.base history in
-    same-keeping opening.base history marked kept kept (λ address. byte_over address drained (below_byte old address))
-    (below_byte new) refl (λ address. sym (below_byte-drains drained kept old new address is drains))
+    same-bytes opening.base history marked kept (λ address. byte_over address drained (below_byte old address))
+    (below_byte new) (λ address. sym (below_byte-drains drained kept old new address is drains))
     (keeps-drained opening.base history marked drained kept (below_byte old) (legal-apart opening history legal)
-    (same-keeping opening.base history marked old.posts (drained ++ kept) (below_byte old) (below_byte old) drains.split
-    (λ address. refl) keeping))
+    (same-posts opening.base history marked old.posts (drained ++ kept) (below_byte old) drains.split keeping))
 
 -- the oldest posts were drained, and the others wait
 pub keeping-drains : (opening : Opening) (history : List Entry) (drained kept : List Post) (old new : DeviceState)
     → IsLegal opening history → IsDevice old → Drains drained kept old new → new.posts ≡ kept
     → IsKeepingDevice opening.base history old → IsKeepingDevice opening.base history new
 keeping-drains opening history drained kept old new legal is drains posts keeping =
-    same-keeping opening.base history (marked_at opening.base history) kept new.posts (below_byte new) (below_byte new)
-    (sym posts) (λ address. refl) (keeps-rest opening history drained kept old new legal is drains keeping)
+    same-posts opening.base history (marked_at opening.base history) kept new.posts (below_byte new) (sym posts)
+    (keeps-rest opening history drained kept old new legal is drains keeping)
 
 -- so many of the oldest posts were drained
 pub keeping-first_drained : (opening : Opening) (history : List Entry) (count : ℕ) (old new : DeviceState)
@@ -91,9 +83,11 @@ keeping-drained opening history old new legal is drained keeping =
 pub keeping-same : (base : Content) (history : List Entry) (old new : DeviceState) → SameLines old new
     → IsKeepingDevice base history old → IsKeepingDevice base history new
 keeping-same base history old new same keeping =
-    same-keeping base history (marked_at base history) old.posts new.posts (below_byte old) (below_byte new) (sym same.posts)
+    let marked : ℕ → Bool = marked_at base history in
+    same-bytes base history marked new.posts (below_byte old) (below_byte new)
     (λ address. ap (λ (bytes : List ℕ). get_or bytes (address % 64) 0)
-        (sym (same.below (address / 4096) (address % 4096 / 64)))) keeping
+    (sym (same.below (address / 4096) (address % 4096 / 64))))
+    (same-posts base history marked old.posts new.posts (below_byte old) (sym same.posts) keeping)
 
 -- a step of work
 pub keeping-worked : (opening : Opening) (history : List Entry) (old new : DeviceState) → IsLegal opening history

@@ -1,6 +1,6 @@
 -- The bytes of lines over which posts are laid, by address.
-use Rattle.std.proofs.Common.{◌≡◌, ◌≢◌, ◌≤◌, ◌<◌, inl, inr, ℕ, ◌+◌, ◌-◌, ◌*◌, ◌/◌, ◌%◌, true, false, cond, List, [], ◌∷◌, ◌++◌, None, length, take, get_or, refl, sym, ap, ◌∙◌, arith}
-use Rattle.std.specs.Prelude.{All, ◌==◌, ◌&&◌, nat_le, slice_get, unwrap_or}
+use Rattle.std.proofs.Common.{◌≡◌, inl, inr, ℕ, ◌+◌, ◌-◌, ◌*◌, ◌/◌, ◌%◌, true, false, List, [], ◌∷◌, ◌++◌, length, take, get_or, refl, sym, ap, ◌∙◌, arith}
+use Rattle.std.specs.Prelude.{All, ◌==◌, nat_le, unwrap_or}
 use Rattle.std.proofs.Math.Seq.{take-append_seam}
 use Rattle.std.proofs.lemmas.Bool.{and_from, and_parts, cases_Bool, cases_lt, eq-eqb, eqb-true, le-leb, lt-leb}
 use Rattle.std.proofs.lemmas.List.Elements.{All-cons, All-head, All-nil, All-same, All-tail, All-take}
@@ -11,7 +11,7 @@ use Rattle.ff_lines.specs.declared.post.Post.{Post}
 use Rattle.ff_lines.proofs.DeviceLines.{length-laid}
 use Rattle.ff_lines.proofs.Overlaid.{byte-overlaid}
 use Rattle.ff_kept.specs.Posted.{below_byte, byte_in_lines, byte_over, device_byte, posted_byte}
-use Rattle.ff_kept.proofs.Posting.{line_number, posted_byte-other}
+use Rattle.ff_kept.proofs.Posting.{posted_byte-other}
 
 -- a byte of the line that a post is to
 byte-laid_here : (address : ℕ) (post : Post) (bytes : List ℕ) → IsPost post → length bytes ≡ 64
@@ -48,12 +48,12 @@ byte-laid_on address post bytes is size = elim (cases_Bool (is_to (address / 409
       rw here (byte-laid_here address post bytes is size (sym page) (sym line))
   | inr other ↦
       let none = posted_byte-other address post is (λ same.
-          let low = is.line in
-          let page : post.page.0 ≡ address / 4096 = omega arith in
-          let line : post.line ≡ address % 4096 / 64 = omega arith in
-          let here = and_from (post.page.0 == address / 4096) (post.line == address % 4096 / 64)
-          (eq-eqb post.page.0 (address / 4096) page) (eq-eqb post.line (address % 4096 / 64) line) in
-          absurd (cc (here, other))) in
+      let low = is.line in
+      let page : post.page.0 ≡ address / 4096 = omega arith in
+      let line : post.line ≡ address % 4096 / 64 = omega arith in
+      let here = and_from (post.page.0 == address / 4096) (post.line == address % 4096 / 64)
+      (eq-eqb post.page.0 (address / 4096) page) (eq-eqb post.line (address % 4096 / 64) line) in
+      absurd (cc (here, other))) in
       rw (other, none) refl
 ]
 

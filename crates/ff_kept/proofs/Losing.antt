@@ -1,9 +1,8 @@
 -- A power loss: so many of the oldest posts arrive, and the others are lost.
-use Rattle.std.proofs.Common.{◌≡◌, ◌≤◌, ◌<◌, ℕ, ◌+◌, ◌-◌, Bool, true, List, [], ◌∷◌, ◌++◌, Option, Some, None, length, take, drop, refl, sym, ap, subst, ◌∙◌, length-drop, arith}
-use Rattle.std.specs.Prelude.{All, min, slice_range, unwrap_or}
+use Rattle.std.proofs.Common.{◌≡◌, ◌≤◌, ℕ, ◌+◌, Bool, List, [], ◌∷◌, Option, Some, None, length, take, drop, sym, ap, subst, ◌∙◌, length-drop, arith}
+use Rattle.std.specs.Prelude.{All, slice_range, unwrap_or}
 use Rattle.std.proofs.lemmas.List.{take-append-drop, take_rest}
 use Rattle.ff_lines.specs.declared.post.Post.{Post}
-use Rattle.ff_model.specs.Flat.{flat_byte_of}
 use Rattle.ff_model.specs.Image.{Content}
 use Rattle.ff_model.specs.declared.history.Entry.{Entry}
 use Rattle.ff_kept.specs.Keeping.{IsKeeping, KeepsAt, PowerLossKeeps}
@@ -58,8 +57,12 @@ all-lost base history marked posts below lost apart few keeping =
       bytes = λ address on.
           keeping.bytes address on
           ∙ sym (flat_byte_of-unmarked base history marked keeping.from kept address is.from_on apart is.none_between on);
-      few = omega (arith, marked_stores-split marked history keeping.from kept is.from_on, is.none_between,
-      waits-few marked history posts keeping.from keeping.waits);
+      few = omega (
+        arith,
+        marked_stores-split marked history keeping.from kept is.from_on,
+        is.none_between,
+        waits-few marked history posts keeping.from keeping.waits,
+      );
       past = keeping.past 0;
     }
 

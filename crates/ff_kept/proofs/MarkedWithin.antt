@@ -1,13 +1,12 @@
 -- Only lines of the pages are marked.
-use Rattle.std.proofs.Common.{◌≡◌, ◌≤◌, ◌<◌, inl, inr, ℕ, ◌+◌, ◌*◌, ◌/◌, ◌%◌, Bool, true, false, List, [], ◌∷◌, ◌++◌, Option, Some, None, length, get_or, refl, sym, ap, ◌∙◌, arith}
-use Rattle.std.specs.Prelude.{IsTrue, ◌==◌, ◌&&◌, ◌||◌, not, nat_le, nat_lt, unwrap_or}
+use Rattle.std.proofs.Common.{◌≡◌, ◌≤◌, ◌<◌, inl, inr, ℕ, ◌+◌, ◌*◌, ◌/◌, ◌%◌, Bool, true, false, List, [], ◌∷◌, ◌++◌, Option, Some, None, length, get_or, refl, ap, arith}
+use Rattle.std.specs.Prelude.{IsTrue, ◌==◌, ◌&&◌, nat_le, nat_lt, unwrap_or}
 use Rattle.std.specs.Int.{bit_at}
 use Rattle.std.specs.Option.{option_or}
 use Rattle.std.proofs.lemmas.Bool.{and_parts, cases_Bool, cases_lt, eqb-true, ltb-true}
 use Rattle.std.proofs.lemmas.List.{get_or_past}
 use Rattle.std.proofs.lemmas.Nat.Bits.{bit_at-zero}
-use Rattle.ff_base.specs.declared.numbers.PageNo.{PageNo}
-use Rattle.ff_model.specs.Callers.{acknowledges, is_in_lines, is_marked, mark_by, marked_by}
+use Rattle.ff_model.specs.Callers.{is_in_lines, mark_by, marked_by}
 use Rattle.ff_model.specs.Flat.{is_done, latest}
 use Rattle.ff_model.specs.Image.{Content}
 use Rattle.ff_model.specs.Legal.{IsLegal, LegalAfter, MayFollow, Opening}
@@ -15,9 +14,8 @@ use Rattle.ff_model.specs.Spans.{is_in_range}
 use Rattle.ff_model.specs.declared.history.Entry.{Entry}
 use Rattle.ff_model.specs.declared.op.Op.{Op}
 use Rattle.ff_model.specs.declared.op.Op.TheVariants.{Load, Store, Verify, Mark, Release}
-use Rattle.ff_model.proofs.AppendedCalls.{is_marked-append}
 use Rattle.ff_kept.specs.Marked.{marked_at}
-use Rattle.ff_kept.proofs.Apart.{IsByLine, in_range-done}
+use Rattle.ff_kept.proofs.Apart.{in_range-done}
 
 -- a call in range marks lines of the pages
 mark_by-within : (pages page line : ℕ) (op : Op) → IsTrue (is_in_range pages op) → mark_by page line op ≡ Some true

@@ -1,23 +1,17 @@
 -- What one more entry changes of the marked lines.
-use Rattle.std.proofs.Common.{◌≡◌, ◌≤◌, ◌<◌, inl, inr, ℕ, ◌+◌, ◌*◌, ◌/◌, ◌%◌, Bool, true, false, List, [], ◌∷◌, ◌++◌, Option, Some, None, length, get_or, refl, sym, ap, ◌∙◌, arith}
-use Rattle.std.specs.Prelude.{IsTrue, ◌==◌, ◌&&◌, ◌||◌, not, nat_le, nat_lt, unwrap_or}
-use Rattle.std.specs.Int.{bit_at}
-use Rattle.std.specs.Option.{option_or}
-use Rattle.std.proofs.lemmas.Bool.{and_parts, cases_Bool, cases_lt, eqb-true, ltb-true}
-use Rattle.std.proofs.lemmas.List.{get_or_past}
-use Rattle.std.proofs.lemmas.Nat.Bits.{bit_at-zero}
+use Rattle.std.proofs.Common.{◌≡◌, inl, inr, ℕ, ◌/◌, ◌%◌, Bool, true, false, List, [], ◌∷◌, ◌++◌, refl, sym, ap, ◌∙◌, arith}
+use Rattle.std.specs.Prelude.{◌==◌, ◌&&◌, ◌||◌, not, unwrap_or}
+use Rattle.std.proofs.lemmas.Bool.{cases_Bool}
 use Rattle.ff_base.specs.declared.numbers.PageNo.{PageNo}
 use Rattle.ff_model.specs.Callers.{acknowledges, is_in_lines, is_marked, mark_by, marked_by}
-use Rattle.ff_model.specs.Flat.{is_done, latest}
+use Rattle.ff_model.specs.Flat.{is_done}
 use Rattle.ff_model.specs.Image.{Content}
-use Rattle.ff_model.specs.Legal.{IsLegal, LegalAfter, MayFollow, Opening}
-use Rattle.ff_model.specs.Spans.{is_in_range}
 use Rattle.ff_model.specs.declared.history.Entry.{Entry}
 use Rattle.ff_model.specs.declared.op.Op.{Op}
 use Rattle.ff_model.specs.declared.op.Op.TheVariants.{Load, Store, Verify, Mark, Release}
 use Rattle.ff_model.proofs.AppendedCalls.{is_marked-append}
 use Rattle.ff_kept.specs.Marked.{marked_at}
-use Rattle.ff_kept.proofs.Apart.{IsByLine, in_range-done}
+use Rattle.ff_kept.proofs.Apart.{IsByLine}
 
 -- the addresses of a line are all marked or all not
 pub marked_at-by_line : (base : Content) (history : List Entry) → IsByLine (marked_at base history)

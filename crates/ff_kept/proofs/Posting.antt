@@ -1,5 +1,5 @@
--- A post is put behind the others: a caller's store, or a line of a page that went back to the device.
-use Rattle.std.proofs.Common.{◌≡◌, ◌≢◌, ◌≤◌, inl, inr, ℕ, ◌+◌, ◌*◌, ◌/◌, Bool, true, false, List, [], ◌∷◌, ◌++◌, Option, Some, None, length, take, drop, refl, sym, ap, subst, ◌∙◌, length-append, arith}
+-- A post is put behind the others: a caller's store, or a landed line of a retreat.
+use Rattle.std.proofs.Common.{◌≡◌, ◌≢◌, ◌≤◌, inl, inr, ℕ, ◌+◌, ◌*◌, ◌/◌, Bool, true, false, List, [], ◌∷◌, ◌++◌, Option, Some, None, length, drop, refl, sym, ap, subst, ◌∙◌, length-append, arith}
 use Rattle.std.specs.Prelude.{◌&&◌, slice_range, unwrap_or}
 use Rattle.std.proofs.lemmas.Bool.{cases_eq, cases_lt}
 use Rattle.std.proofs.lemmas.List.{append-nil, drop_all, take_all, take_rest}
@@ -37,26 +37,30 @@ posted_byte-other address post is apart =
 past-posted : (base : Content) (history later : List Entry) (marked : ℕ → Bool) (posts : List Post) (post : Post) (below : ℕ → ℕ)
     → IsPost post
     → ((address : ℕ) → address / 64 ≡ line_number post
-        → byte_over address (posts ++ post ∷ []) (below address) ≡ flat_byte_of base (history ++ later) address)
+    → byte_over address (posts ++ post ∷ []) (below address) ≡ flat_byte_of base (history ++ later) address)
     → IsKeeping base history marked posts below
     → IsPast base (history ++ later) (λ address. byte_over address (posts ++ post ∷ []) (below address))
 past-posted base history later marked posts post below is right keeping line = elim (cases_eq line (line_number post)) [
-  | inl same ↦
-      (length (history ++ later), record {
-        within = omega arith;
-        bytes = λ address on.
-            right address (on ∙ same)
-            ∙ ap (λ (entries : List Entry). flat_byte_of base entries address)
-            (sym (take_all (length (history ++ later)) (history ++ later) (omega arith)));
-      })
+  | inl same ↦ (
+    length (history ++ later),
+    record {
+      within = omega arith;
+      bytes = λ address on.
+          right address (on ∙ same)
+          ∙ ap (λ (entries : List Entry). flat_byte_of base entries address)
+          (sym (take_all (length (history ++ later)) (history ++ later) (omega arith)));
+    },
+  )
   | inr other ↦
-      let old = past-longer base history later (λ address. byte_over address posts (below address)) (past-all base history marked posts below keeping) line in
-      (old.0, record {
-        within = old.1.within;
-        bytes = λ address on.
-            let none = posted_byte-other address post is (λ same. other (sym on ∙ same)) in
-            byte_over-append address posts (post ∷ []) (below address) ∙ rw none (old.1.bytes address on);
-      })
+      let old = past-longer base history later (λ address. byte_over address posts (below address)) (past-all base history marked posts below keeping) line in (
+        old.0,
+        record {
+          within = old.1.within;
+          bytes = λ address on.
+              let none = posted_byte-other address post is (λ same. other (sym on ∙ same)) in
+              byte_over-append address posts (post ∷ []) (below address) ∙ rw none (old.1.bytes address on);
+        },
+      )
 ]
 
 -- the last entry of a history is what the last post is to it
@@ -85,13 +89,13 @@ waits-last marked history entry post position done store from low none =
 pub keeps-stored : (base : Content) (history : List Entry) (entry : Entry) (marked : ℕ → Bool) (posts : List Post) (post : Post) (below : ℕ → ℕ)
     → IsPost post → post.position ≡ Some (length history) → is_done entry.reply ≡ true → entry.op ≡ store_of post
     → ((address : ℕ) → address / 64 ≡ line_number post
-        → byte_over address posts (below address) ≡ flat_byte_of base history address)
+    → byte_over address posts (below address) ≡ flat_byte_of base history address)
     → IsKeeping base history marked posts below
     → IsKeeping base (history ++ entry ∷ []) marked (posts ++ post ∷ []) below
 keeps-stored base history entry marked posts post below is position done store right keeping =
     let silent : (is_done entry.reply && acknowledges entry.op) ≡ false = rw (done, store) refl in
     let after : (address : ℕ) → address / 64 ≡ line_number post
-        → byte_over address (posts ++ post ∷ []) (below address) ≡ flat_byte_of base (history ++ entry ∷ []) address =
+    → byte_over address (posts ++ post ∷ []) (below address) ≡ flat_byte_of base (history ++ entry ∷ []) address =
     λ address on.
     byte_over-append address posts (post ∷ []) (below address)
     ∙ ap (λ (byte : ℕ). unwrap_or (posted_byte address post) byte) (right address on)
@@ -101,20 +105,20 @@ keeps-stored base history entry marked posts post below is position done store r
     (acknowledged_length-same history entry silent) (waits-last marked history entry post position done store)
     (past-posted base history (entry ∷ []) marked posts post below is after keeping) keeping
 
--- a line of a page that went back was posted: it isn't marked, and then it has the flat bytes
+-- a landed line of a retreat was posted: it isn't marked, and then it has the flat bytes
 pub keeps-landed : (base : Content) (history : List Entry) (marked : ℕ → Bool) (posts : List Post) (post : Post) (below : ℕ → ℕ)
     → IsPost post → post.position ≡ None → LeavesMarked marked post
     → ((address : ℕ) → address / 64 ≡ line_number post
-        → byte_over address (posts ++ post ∷ []) (below address) ≡ flat_byte_of base history address)
+    → byte_over address (posts ++ post ∷ []) (below address) ≡ flat_byte_of base history address)
     → IsKeeping base history marked posts below → IsKeeping base history marked (posts ++ post ∷ []) below
 keeps-landed base history marked posts post below is position leaves right keeping =
     let same : history ++ [] ≡ history = append-nil history in
     let after : (address : ℕ) → address / 64 ≡ line_number post
-        → byte_over address (posts ++ post ∷ []) (below address) ≡ flat_byte_of base (history ++ []) address =
+    → byte_over address (posts ++ post ∷ []) (below address) ≡ flat_byte_of base (history ++ []) address =
     λ address on.
     right address on ∙ ap (λ (entries : List Entry). flat_byte_of base entries address) (sym same) in
     let last : (from : ℕ) → from ≤ length history → marked_stores marked (drop from history) ≡ 0
-        → AllWait marked (history ++ []) from (post ∷ []) =
+    → AllWait marked (history ++ []) from (post ∷ []) =
     λ from low none. rw same
     (subst (λ (at : Option ℕ). WaitsFirst marked history from post (λ n. AllWait marked history n []) at) (sym position)
     (leaves, none)) in

@@ -1,5 +1,5 @@
 -- What becomes of the waiting posts when a history grows, when marks are cleared, and how many stores are lost.
-use Rattle.std.proofs.Common.{◌≡◌, ◌≤◌, ◌<◌, ℕ, ◌+◌, ◌-◌, Bool, true, List, [], ◌∷◌, ◌++◌, Option, Some, None, length, drop, ap, ◌∙◌, arith}
+use Rattle.std.proofs.Common.{◌≡◌, ◌≤◌, ◌<◌, ℕ, ◌+◌, Bool, true, List, [], ◌∷◌, ◌++◌, Option, Some, None, length, drop, ap, ◌∙◌, arith}
 use Rattle.std.specs.Prelude.{slice_range}
 use Rattle.std.proofs.lemmas.Option.{slice_get_within}
 use Rattle.ff_lines.specs.declared.post.Post.{Post}
@@ -39,7 +39,7 @@ first-longer marked history later from post old new rest low (Some position) wai
 -- what waited still waits when the history has grown, with more posts behind where these are what is behind it
 pub waits-longer : (marked : ℕ → Bool) (history later : List Entry) (tail : List Post)
     → ((from : ℕ) → from ≤ length history → marked_stores marked (drop from history) ≡ 0
-        → AllWait marked (history ++ later) from tail)
+    → AllWait marked (history ++ later) from tail)
     → (posts : List Post) (from : ℕ) → from ≤ length history → AllWait marked history from posts
     → AllWait marked (history ++ later) from (posts ++ tail)
 waits-longer marked history later tail last [] from low waits = last from low waits
@@ -56,15 +56,17 @@ first-fewer fewer marked history from post old new less rest None waits =
     (λ address is. waits.0 address (less address is), rest from waits.1)
 first-fewer fewer marked history from post old new less rest (Some position) waits =
     let next = waits.0 in
-    let most = marked_stores-fewer fewer marked (slice_range history from position) less in
-    (record {
-      from_on = next.from_on;
-      entry = next.entry;
-      there = next.there;
-      done = next.done;
-      store = next.store;
-      none_between = omega (arith, next.none_between, most);
-    }, rest (position + 1) waits.1)
+    let most = marked_stores-fewer fewer marked (slice_range history from position) less in (
+      record {
+        from_on = next.from_on;
+        entry = next.entry;
+        there = next.there;
+        done = next.done;
+        store = next.store;
+        none_between = omega (arith, next.none_between, most);
+      },
+      rest (position + 1) waits.1,
+    )
 
 -- what waits, waits where fewer lines are marked
 pub waits-fewer : (fewer marked : ℕ → Bool) (history : List Entry)

@@ -47,7 +47,8 @@ pub record IsKeeping (base : Content) (history : List Entry) (marked : ℕ → B
 
 -- the same of a device, for the lines that are marked after the history
 abbrev pub IsKeepingDevice : Content → List Entry → DeviceState → Type 0
-IsKeepingDevice base history d = IsKeeping base history (marked_at base history) d.posts (below_byte d)
+IsKeepingDevice base history d =
+    IsKeeping base history (marked_at base history) d.posts (below_byte d)
 
 -- a power loss at which the oldest `arrive` posts arrive, and the others are lost, keeps the first `kept` of so many
 -- entries, whatever the legal history and the bytes below the posts are
@@ -56,4 +57,4 @@ pub record KeepsAt (posts : List Post) (arrive entries kept : ℕ) : Type 0 wher
       → IsLegal opening history → length history ≡ entries → length posts ≤ arrive + lost
       → IsKeeping opening.base history (marked_at opening.base history) posts below
       → PowerLossKeeps opening.base history (marked_at opening.base history)
-          (λ address. byte_over address (take arrive posts) (below address)) kept lost
+      (λ address. byte_over address (take arrive posts) (below address)) kept lost

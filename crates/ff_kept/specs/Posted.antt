@@ -18,12 +18,15 @@ posted_byte address post = covering_byte address (store_of post)
 -- the byte at an address after posts, in their order, over the one that was there
 abbrev pub byte_over : ℕ → List Post → ℕ → ℕ
 byte_over address [] byte = byte
-byte_over address (post ∷ later) byte = byte_over address later (unwrap_or (posted_byte address post) byte)
+byte_over address (post ∷ later) byte =
+    byte_over address later (unwrap_or (posted_byte address post) byte)
 
 -- the byte at an address, by the lines of each page
 abbrev pub byte_in_lines : (ℕ → ℕ → List ℕ) → ℕ → ℕ
 byte_in_lines lines address =
-    slice_index (lines (address / PAGE_BYTES) (address % PAGE_BYTES / LINE_BYTES)) (address % LINE_BYTES)
+    slice_index
+    (lines (address / PAGE_BYTES) (address % PAGE_BYTES / LINE_BYTES))
+    (address % LINE_BYTES)
 
 -- the byte of a device at an address below its posts
 abbrev pub below_byte : DeviceState → ℕ → ℕ

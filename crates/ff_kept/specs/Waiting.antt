@@ -32,7 +32,7 @@ AllWait marked history from [] = marked_stores marked (drop from history) ≡ 0
 AllWait marked history from (post ∷ later) =
     WaitsFirst marked history from post (λ next. AllWait marked history next later) post.position
 
--- how many of so many entries are kept where these posts are lost: those before the first position that is lost
+-- of so many entries, how many are kept where these posts are lost: those before the first position that is lost
 abbrev pub kept_length : List Post → ℕ → ℕ
 kept_length [] entries = entries
 kept_length (post ∷ later) entries = unwrap_or post.position (kept_length later entries)

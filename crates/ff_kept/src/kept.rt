@@ -5,7 +5,7 @@ ghost use Rattle.ff_kept.specs.Waiting.{kept_length};
 
 use ff_lines::Post;
 
-/// How many of so many entries a power loss keeps where the oldest `arrive` of the waiting posts arrive and the others
+/// Of so many entries, how many a power loss keeps where the oldest `arrive` of the waiting posts arrive and the others
 /// are lost: those before the first lost store of a caller, else all.
 pub fn kept_length(posts: &[Post], arrive: u32, entries: u32) -> u32
     ensures exact { result ≡ kept_length (drop arrive posts.now) entries }

@@ -2,5 +2,7 @@
 #![tactic(auto)]
 
 mod kept;
+#[cfg(test)]
+mod tests;
 
 pub use kept::kept_length;
