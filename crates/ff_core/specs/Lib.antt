@@ -3,6 +3,7 @@ pub mod CanPerform
 pub mod Choices
 pub mod Core
 pub mod CoreSound
+pub mod Drives
 pub mod Fresh
 pub mod Hierarchy
 pub mod Log

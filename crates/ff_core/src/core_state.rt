@@ -11,6 +11,7 @@ ghost use Rattle.ff_core.specs.Fresh.{IsFreshFlash, fresh_core};
 ghost use Rattle.ff_core.specs.Hierarchy.{flash_of};
 ghost use Rattle.ff_core.specs.Turns.{IsTurn};
 
+mod driving;
 mod ending;
 
 use crate::fresh::{FreshBack, fresh_state};
