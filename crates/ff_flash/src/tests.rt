@@ -1,4 +1,4 @@
-// The table of the operations on the pages of a flash, its counts and cuts, and what a page reads as.
+// The table of the operations on the pages of a flash, its counts and its cuts.
 ghost use Rattle.std.specs.Prelude.{IfOk};
 ghost use Rattle.ff_flash.specs.Plans.{IsPlan, planned_of};
 
@@ -122,22 +122,6 @@ fn a_flash_tells_its_counts_and_its_cut(rt: HostRuntime) -> Result<(), Fail> {
     flash.power_off();
     assert_eq!(rt; counts_of(&flash), (7, 0, false, None));
     assert_eq!(rt; counts_of(&other), (7, 0, false, Some(2)));
-    Ok(())
-}
-
-#[test]
-fn a_page_reads_as_it_was_programmed(rt: HostRuntime) -> Result<(), Fail> {
-    let mut flash = flash_in(rt.alloc(), b'e', Way::Works)?;
-    let mut page = PageBuf::new(rt.alloc())?;
-    page.set_line(1, &[9; 64]);
-    bring(&mut flash, Ppn(5), b'x', &mut page);
-    page.clear();
-    bring(&mut flash, Ppn(4), b'x', &mut page);
-    assert_eq!(rt;
-        make(&mut flash, Call::Read, Ppn(5), &mut page),
-        Some(Ok(()))
-    );
-    assert_eq!(rt; page.line(1), [9; 64]);
     Ok(())
 }
 

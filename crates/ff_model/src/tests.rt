@@ -52,50 +52,6 @@ fn the_latest_done_store_gives_a_byte(rt: HostRuntime) -> Result<(), Fail> {
     Ok(())
 }
 
-#[test]
-fn a_new_image_holds_nothing(rt: HostRuntime) -> Result<(), Fail> {
-    let image = Image::new(rt.alloc(), 2)?;
-    assert!(rt; !image.holds(PageNo(1)));
-    assert_eq!(rt; image.line(PageNo(1), 63), [0; 64]);
-    assert_eq!(rt; image.byte(8191), 0);
-    Ok(())
-}
-
-#[test]
-fn copies_are_equal(rt: HostRuntime) {
-    let mut piece = Piece::new();
-    piece.push(7);
-    assert_eq!(rt; piece.copy().as_slice(), [7].as_slice());
-    let page = PageNo(3);
-    for op in [
-        Op::Load { at: 1, len: 2 },
-        store(5, &[6, 7]),
-        Op::Verify,
-        Op::Mark {
-            page,
-            from: 1,
-            count: 2,
-        },
-        Op::Release {
-            page,
-            from: 3,
-            count: 4,
-        },
-    ] {
-        assert_eq!(rt; op.copy(), op);
-    }
-    for reply in [
-        Reply::Bytes(Piece::from_slice(&[1, 2])),
-        Reply::Done,
-        Reply::Range,
-        Reply::Spent,
-        Reply::Full,
-        Reply::Fault,
-    ] {
-        assert_eq!(rt; reply.copy(), reply);
-    }
-}
-
 // A place, a length, and whether the span is in range of 16 pages.
 const SPANS: [(u32, u32, bool); 8] = [
     (65535, 1, true),
@@ -146,6 +102,7 @@ fn an_image_holds_pages_and_marks(rt: HostRuntime) -> Result<(), Fail> {
     let mut page = PageBuf::new(rt.alloc())?;
     page.set_line(1, &[7; 64]);
     let mut image = Image::new(rt.alloc(), 2)?;
+    assert_eq!(rt; (image.holds(PageNo(1)), image.byte(8191)), (false, 0));
     image.put(PageNo(1), &page)?;
     image.set_marks(PageNo(0), 5);
     let copy = image.copy(rt.alloc())?;
@@ -159,17 +116,6 @@ fn an_image_holds_pages_and_marks(rt: HostRuntime) -> Result<(), Fail> {
     assert_eq!(rt; copy.byte(4096 + 64), 7);
     assert_eq!(rt; (copy.marks(PageNo(0)), copy.marks(PageNo(1))), (5, 0));
     Ok(())
-}
-
-#[test]
-fn turns_are_counted_by_kind(rt: HostRuntime) {
-    let mut turns = TurnCounts::default();
-    turns.add(Kind::Collect, true);
-    let collect = KindTurns { made: 1, did: 1 };
-    for kind in [Kind::Promote, Kind::Evict, Kind::Drain] {
-        assert_eq!(rt; turns.of(kind), KindTurns::default());
-    }
-    assert_eq!(rt; turns.of(Kind::Collect), collect);
 }
 
 fn answered(event: u64, faults: u64, op: Op, reply: Reply) -> Entry {
