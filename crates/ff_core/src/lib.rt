@@ -10,6 +10,8 @@ mod hierarchy;
 mod log;
 mod state;
 mod tally;
+#[cfg(test)]
+mod tests;
 mod turn;
 
 pub use account::Record;

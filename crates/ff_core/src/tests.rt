@@ -1,0 +1,143 @@
+// Calls and background turns over a simulated flash, by their answers and counts.
+mod rows;
+mod rules;
+
+use super::*;
+use ff_base::{Caller, Geometry, PageNo};
+use ff_evict::Picker;
+use ff_flash::{Plan, SimFlash};
+use ff_model::{Counts, Kind, Op, Piece, Reply};
+use ff_policy::Tuner;
+use rows::{ROWS, Row, Step};
+use rules::{ByDirty, ByHits};
+use std::alloc::Global;
+use std::test::Fail;
+
+type TestCore = Core<SimFlash, ByHits, ByDirty>;
+
+fn core_of(alloc: Global, row: &Row) -> Result<TestCore, Fail> {
+    let plan = Plan {
+        fail: Vec::from_slice(alloc, row.fail)?,
+        cuts: Vec::new(alloc),
+    };
+    let flash = SimFlash::new(alloc, &row.geometry, plan)?;
+    let room = Room {
+        calls: 32,
+        turns: 256,
+    };
+    let tuner = Tuner::new(1, 4, ByHits);
+    match Core::fresh(
+        alloc,
+        flash,
+        row.geometry,
+        tuner,
+        Picker::new(ByDirty),
+        room,
+    ) {
+        Ok(core) => Ok(core),
+        Err(_) => Err("no memory")?,
+    }
+}
+
+// Whether a step is answered so.
+fn is_answered(core: &mut TestCore, step: &Step) -> bool {
+    match step {
+        Step::Load(at, bytes) => {
+            let op = Op::Load {
+                at: *at,
+                len: bytes.len() as u32,
+            };
+            call(core, &op) == Some(Reply::Bytes(Piece::from_slice(bytes)))
+        }
+        Step::Store(at, bytes) => store(core, *at, bytes) == Some(Reply::Done),
+        Step::Full(at, bytes) => store(core, *at, bytes) == Some(Reply::Full),
+        Step::Fault(at, bytes) => store(core, *at, bytes) == Some(Reply::Fault),
+        Step::Mark(page) => {
+            let op = Op::Mark {
+                page: PageNo(*page),
+                from: 0,
+                count: 64,
+            };
+            call(core, &op) == Some(Reply::Done)
+        }
+        Step::Turns(kind, count, did) => turns(core, *kind, *count) == *did,
+    }
+}
+
+fn store(core: &mut TestCore, at: u32, bytes: &[u8]) -> Option<Reply> {
+    let op = Op::Store {
+        at,
+        bytes: Piece::from_slice(bytes),
+    };
+    call(core, &op)
+}
+
+// The reply to a call of caller 0.
+fn call(core: &mut TestCore, op: &Op) -> Option<Reply> {
+    if core.spare_calls() == 0 {
+        return None;
+    }
+    match core.drive(Caller(0), 0, op) {
+        Driven::Served(reply) => Some(reply),
+        Driven::Off => None,
+    }
+}
+
+// Makes so many turns of a kind, and tells how many did something.
+fn turns(core: &mut TestCore, kind: Kind, count: u32) -> u32 {
+    let mut did = 0;
+    for _ in 0..count {
+        if core.spare_turns() == 0 {
+            return did;
+        }
+        let answer = match kind {
+            Kind::Promote => core.promote_turn(),
+            Kind::Evict => core.evict_turn(),
+            Kind::Collect => core.collect_turn(),
+            Kind::Drain => core.drain_turn(),
+        };
+        if let Back::Did(_) = answer {
+            did += 1;
+        }
+    }
+    did
+}
+
+#[test]
+fn calls_and_turns_come_to_these_answers_and_counts(rt: HostRuntime) -> Result<(), Fail> {
+    for (at, row) in ROWS.iter().enumerate() {
+        let mut core = core_of(rt.alloc(), row)?;
+        for step in row.steps {
+            assert!(rt; is_answered(&mut core, step), "row {at}");
+        }
+        assert_eq!(rt; core.counts(), row.counts, "row {at}");
+    }
+    Ok(())
+}
+
+#[test]
+fn a_session_ends_in_its_record(rt: HostRuntime) -> Result<(), Fail> {
+    let mut core = core_of(rt.alloc(), &ROWS[0])?;
+    assert_eq!(rt; (core.spare_calls(), core.spare_turns()), (32, 256));
+    assert_eq!(rt; call(&mut core, &Op::Verify), Some(Reply::Done));
+    assert_eq!(rt; turns(&mut core, Kind::Drain, 1), 0);
+    assert_eq!(rt;
+        (core.events(), core.history().len(), core.log().len()),
+        (1, 1, 1)
+    );
+    assert_eq!(rt; (core.floor(), *core.geometry()), (1, Geometry::default()));
+    let ended = core.finish();
+    assert_eq!(rt;
+        (ended.account.from_event(), ended.account.events()),
+        (0, 1)
+    );
+    assert_eq!(rt; ended.account.counts(), &Counts::default());
+    assert!(rt;
+        ended
+            .account
+            .log()
+            .get(0)
+            .is_some_and(|turn| turn.answer == Back::Idle)
+    );
+    Ok(())
+}
