@@ -1,0 +1,4 @@
+pub mod Evicting
+pub mod Marked
+pub mod Turning
+pub mod Yielding
