@@ -1,4 +1,5 @@
 pub mod Evicting
 pub mod Marked
+pub mod Mays
 pub mod Turning
 pub mod Yielding
