@@ -1,3 +1,4 @@
+pub mod Beginning
 pub mod Evicting
 pub mod Marked
 pub mod Mays
