@@ -113,6 +113,7 @@ impl<F: Flash, T: Tune, E: Pick> Core<F, T, E> {
     }
 
     /// What every core keeps. For the prover alone.
+    #[tactic(auto, using(crate::proofs::Probe::probe))]
     pub fn known(&self)
         ensures { IsCoreSound self.now }
     {

@@ -1,0 +1,4 @@
+pub mod MemorySizes
+pub mod Probe
+pub mod Running
+pub mod Sizes
