@@ -1,4 +1,6 @@
 pub mod MemorySizes
 pub mod Probe
 pub mod Running
+pub mod Sides
 pub mod Sizes
+pub mod Tallied

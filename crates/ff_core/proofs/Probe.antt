@@ -1,3 +1,4 @@
 -- To be removed.
-use Rattle.ff_core.proofs.Sizes.{performs-parts}
-pub ruleset probe = performs-parts
+use Rattle.ff_core.proofs.Tallied.{chosen-turn}
+use Rattle.ff_core.proofs.Sides.{served-side}
+pub ruleset probe = (chosen-turn, served-side)
