@@ -1,4 +1,4 @@
 -- To be removed.
-use Rattle.ff_core.proofs.Tallied.{chosen-turn}
-use Rattle.ff_core.proofs.Sides.{served-side}
-pub ruleset probe = (chosen-turn, served-side)
+use Rattle.ff_core.proofs.Timing.{timed-over}
+use Rattle.ff_core.proofs.Counting.{counted-over}
+pub ruleset probe = (timed-over, counted-over)
