@@ -1,6 +1,8 @@
+pub mod ActionsTold
 pub mod Counting
 pub mod MemorySizes
 pub mod Probe
+pub mod Recounting
 pub mod Running
 pub mod Sides
 pub mod Sizes

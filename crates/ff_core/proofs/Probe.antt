@@ -1,4 +1,4 @@
 -- To be removed.
-use Rattle.ff_core.proofs.Timing.{timed-over}
-use Rattle.ff_core.proofs.Counting.{counted-over}
-pub ruleset probe = (timed-over, counted-over)
+use Rattle.ff_core.proofs.ActionsTold.{performs-tells}
+use Rattle.ff_core.proofs.Recounting.{recounted-failed}
+pub ruleset probe = (performs-tells, recounted-failed)

@@ -83,7 +83,7 @@ did-promoted Drained action tally other = refl
 did-promoted Sealed action tally other = refl
 did-promoted Collected action tally other = refl
 
-after-promoted : (progress : Progress) (action : Action) (tally : Tally) → (started_by action tally).promoted ≡ tally.promoted
+pub after-promoted : (progress : Progress) (action : Action) (tally : Tally) → (started_by action tally).promoted ≡ tally.promoted
     → (tally_after action progress tally).promoted ≡ tally.promoted
 after-promoted (Did what) action tally other = did-promoted what action tally other
 after-promoted Failed action tally other = refl
