@@ -1,10 +1,12 @@
 pub mod ActionsTold
 pub mod Counting
 pub mod MemorySizes
+pub mod MissSound
 pub mod Probe
 pub mod Recounting
 pub mod Running
 pub mod Sides
 pub mod Sizes
+pub mod SoundOver
 pub mod Tallied
 pub mod Timing

@@ -9,6 +9,7 @@ use Rattle.ff_model.specs.declared.history.Entry.{Entry}
 use Rattle.ff_model.specs.declared.op.Op.{Op}
 use Rattle.ff_model.specs.declared.op.Reply.{Reply}
 use Rattle.ff_model.proofs.Appended.{next_event-append}
+use Rattle.ff_store.specs.PageStore.{PageStoreView}
 use Rattle.ff_core.specs.Core.{CoreView, entry_now, from_operations, next_number, with_entry}
 use Rattle.ff_core.specs.CoreSound.{IsTimed, events_made}
 use Rattle.ff_core.specs.Hierarchy.{HierarchyView, flash_of}
@@ -53,12 +54,12 @@ pub later-answered : {T E : Type 0} (core : CoreView T E) (caller : Caller) (num
 later-answered core caller number op reply faults h timed store =
     let last = next_event-append core.opening core.history.entries (entry_now core caller number op reply faults) in
     let not_past = timed.not_past in
-    let operations = ap (λ s. s.world.flash.operations) store in
+    let operations = ap (λ (s : PageStoreView). s.world.flash.operations) store in
     record {
       next = omega arith;
       rose = omega arith;
       not_past = omega arith;
-      opened = ap (λ s. s.opened) store;
+      opened = ap (λ (s : PageStoreView). s.opened) store;
       spent = λ on. omega arith;
       cut = omega arith;
     }
@@ -109,13 +110,16 @@ later-cut core h timed opened one_more off = record {
   cut = omega arith;
 }
 
--- nothing was done
-pub later-rested : {T E : Type 0} (core : CoreView T E) → IsTimed core → IsLater core core.history core.events core.hierarchy
-later-rested core timed = record {
-  next = timed.next;
-  rose = omega arith;
-  not_past = timed.not_past;
-  opened = refl;
-  spent = λ on. omega arith;
-  cut = omega arith;
-}
+-- nothing was done to the store
+pub later-looked : {T E : Type 0} (core : CoreView T E) (h : HierarchyView T E) → IsTimed core
+    → h.device.store ≡ core.hierarchy.device.store → IsLater core core.history core.events h
+later-looked core h timed store =
+    let operations = ap (λ (s : PageStoreView). s.world.flash.operations) store in
+    record {
+      next = timed.next;
+      rose = omega arith;
+      not_past = timed.not_past;
+      opened = ap (λ (s : PageStoreView). s.opened) store;
+      spent = λ on. omega arith;
+      cut = omega arith;
+    }
