@@ -1,4 +1,5 @@
 pub mod ActionsTold
+pub mod BackSound
 pub mod Counting
 pub mod MemorySizes
 pub mod MissSound
@@ -10,3 +11,4 @@ pub mod Sizes
 pub mod SoundOver
 pub mod Tallied
 pub mod Timing
+pub mod TurnSound

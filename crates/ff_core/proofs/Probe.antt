@@ -1,3 +1,4 @@
 -- To be removed.
-use Rattle.ff_core.proofs.MissSound.{miss-sound}
-pub ruleset probe = miss-sound
+use Rattle.ff_core.proofs.TurnSound.{turn-sound}
+use Rattle.ff_core.proofs.BackSound.{back-sound}
+pub ruleset probe = (turn-sound, back-sound)
