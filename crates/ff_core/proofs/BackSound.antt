@@ -168,3 +168,5 @@ pub back-sound : {T E : Type 0} (score : E → Bool → ℕ → ℕ) (kind : Kin
     → IsBack (flash_of old.hierarchy).on score kind old back new → IsCoreSound new
 back-sound score kind old back new sound memory device is =
     back-sound-by (flash_of old.hierarchy).on score kind old back new sound memory device refl is
+
+pub ruleset back_keeps = back-sound

@@ -1,9 +1,9 @@
 pub mod ActionsTold
 pub mod BackSound
 pub mod Counting
+pub mod FreshSound
 pub mod MemorySizes
 pub mod MissSound
-pub mod Probe
 pub mod Recounting
 pub mod Running
 pub mod Sides

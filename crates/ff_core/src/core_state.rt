@@ -2,22 +2,25 @@
 ghost use Rattle.std.specs.Prelude.{◌≡◌, ◌<◌, ◌≤◌, ◌+◌, ◌^◌, replicate, MatchResult, true};
 ghost use Rattle.ff_base.specs.Geometry.{IsWithinLimits};
 ghost use Rattle.ff_flash.specs.Cells.{erased};
+ghost use Rattle.ff_lines.specs.DeviceState.{IsDevice};
+ghost use Rattle.ff_memory.specs.Memory.{IsMemorySound};
 ghost use Rattle.ff_model.specs.Legal.{IsLegal};
 ghost use Rattle.ff_model.specs.declared.counts.Kind.TheVariants.{Promote, Evict, Collect, Drain};
 ghost use Rattle.ff_core.specs.Backs.{IsBack};
 ghost use Rattle.ff_core.specs.Core.{counts_of, spare_calls, spare_turns};
 ghost use Rattle.ff_core.specs.CoreSound.{IsCoreSound};
 ghost use Rattle.ff_core.specs.Fresh.{IsFreshFlash, fresh_core};
-ghost use Rattle.ff_core.specs.Hierarchy.{flash_of};
+ghost use Rattle.ff_core.specs.Hierarchy.{flash_of, lines_under};
 ghost use Rattle.ff_core.specs.Turns.{IsTurn};
 
 use crate::fresh::{FreshBack, fresh_state};
 use crate::log::{Back, Log};
 use crate::state::State;
 use crate::turn::Turn;
-use ff_base::{Caller, Geometry};
+use ff_base::{Caller, Geometry, PageNo};
 use ff_evict::{Pick, Picker};
 use ff_flash::Flash;
+use ff_lines::LineDevice;
 use ff_model::{Counts, History, Kind, Op};
 use ff_policy::{Tune, Tuner};
 use std::alloc::Global;
@@ -50,6 +53,7 @@ impl<F: Flash, T: Tune, E: Pick> Model for Core<F, T, E> {
 impl<F: Flash, T: Tune, E: Pick> Core<F, T, E> {
     /// A first session, over a flash of which every page is erased: nothing is stored, and the event number is 0. The
     /// error is want of memory, and hands the arguments back.
+    #[tactic(auto, using(crate::proofs::FreshSound::fresh_keeps))]
     pub fn fresh(
         alloc: Global,
         flash: F,
@@ -71,53 +75,71 @@ impl<F: Flash, T: Tune, E: Pick> Core<F, T, E> {
     }
 
     /// One event of a call, with at most one flash operation. It takes no memory. With the power off it does nothing.
+    #[tactic(auto, using(crate::proofs::TurnSound::turn_keeps))]
     pub fn turn(&mut self, caller: Caller, number: u32, op: &Op) -> Turn
         requires spare { 0 < spare_calls self.old }
         ensures { IsTurn (flash_of self.old.hierarchy).on T.answers self.old caller number op.now
             result self.new }
     {
+        self.parts_known();
         self.state.turn(caller, number, op)
     }
 
     /// Moves hot pages into frames, a step at a time. A background turn makes the one choice of its kind, and answers
     /// `Idle` exactly where there is none.
+    #[tactic(auto, using(crate::proofs::BackSound::back_keeps))]
     pub fn promote_turn(&mut self) -> Back
         requires spare { 0 < spare_turns self.old }
         ensures { IsBack (flash_of self.old.hierarchy).on E.score Promote self.old result self.new }
     {
+        self.parts_known();
         self.state.back(Kind::Promote)
     }
 
     /// Moves pages back to the device, a step at a time.
+    #[tactic(auto, using(crate::proofs::BackSound::back_keeps))]
     pub fn evict_turn(&mut self) -> Back
         requires spare { 0 < spare_turns self.old }
         ensures { IsBack (flash_of self.old.hierarchy).on E.score Evict self.old result self.new }
     {
+        self.parts_known();
         self.state.back(Kind::Evict)
     }
 
     /// Seals a flush that waits, or makes a step of the collector.
+    #[tactic(auto, using(crate::proofs::BackSound::back_keeps))]
     pub fn collect_turn(&mut self) -> Back
         requires spare { 0 < spare_turns self.old }
         ensures { IsBack (flash_of self.old.hierarchy).on E.score Collect self.old result self.new }
     {
+        self.parts_known();
         self.state.back(Kind::Collect)
     }
 
     /// Drains the oldest posted store.
+    #[tactic(auto, using(crate::proofs::BackSound::back_keeps))]
     pub fn drain_turn(&mut self) -> Back
         requires spare { 0 < spare_turns self.old }
         ensures { IsBack (flash_of self.old.hierarchy).on E.score Drain self.old result self.new }
     {
+        self.parts_known();
         self.state.back(Kind::Drain)
     }
 
     /// What every core keeps. For the prover alone.
-    #[tactic(auto, using(crate::proofs::Probe::probe))]
     pub fn known(&self)
         ensures { IsCoreSound self.now }
     {
         let _ = &self.state.geometry;
+    }
+
+    // What the memory and the device under a core keep.
+    fn parts_known(&self)
+        ensures memory { IsMemorySound self.now.hierarchy.memory }
+        ensures device { IsDevice (lines_under self.now.hierarchy) }
+    {
+        self.state.hierarchy.memory.known();
+        let _ = self.state.hierarchy.device.resident(PageNo(0));
     }
 
     /// The event number.
