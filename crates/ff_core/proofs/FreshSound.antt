@@ -1,5 +1,5 @@
 -- A first session is sound.
-use Rattle.std.proofs.Common.{◌≡◌, ◌≤◌, ◌<◌, ◌+◌, ◌-◌, ◌*◌, ◌^◌, ℕ, false, true, List, [], Option, None, Some, is_some, length, get_or, map, replicate, refl, sym, ap, ◌∙◌, inl, inr, arith}
+use Rattle.std.proofs.Common.{◌≡◌, ◌≤◌, ◌<◌, ◌+◌, ◌-◌, ◌*◌, ◌^◌, ℕ, false, true, List, [], Option, None, Some, is_some, length, get_or, map, replicate, refl, sym, ap, ◌∙◌, subst, inl, inr, arith}
 use Rattle.std.proofs.lemmas.Bool.{cases_lt}
 use Rattle.std.proofs.Math.ListN.{get_or-map}
 use Rattle.std.proofs.lemmas.List.{get_or-replicate, get_or_past, length-map, length-replicate}
@@ -26,7 +26,7 @@ use Rattle.ff_device.specs.Parts.{Parts, bytes_over, cached, is_pinned, is_writt
 use Rattle.ff_device.specs.StoreState.{bytes_at, is_stored, stored_bytes, stored_in}
 use Rattle.ff_core.specs.Core.{CoreView}
 use Rattle.ff_core.specs.CoreSound.{IsCoreSound, IsCounted, IsSized, IsTimed}
-use Rattle.ff_core.specs.Fresh.{fresh_core, fresh_device}
+use Rattle.ff_core.specs.Fresh.{IsFreshFlash, fresh_core, fresh_device}
 use Rattle.ff_core.specs.declared.core_state.Room.{Room}
 
 all-alike : {A : Type 0} (n i : ℕ) (a : A) → get_or (replicate n a) i a ≡ a
@@ -129,4 +129,10 @@ fresh-sound flash g tuner picker room limits few calls turns = record {
   counted = fresh-counted flash g tuner picker room;
 }
 
-pub ruleset fresh_keeps = fresh-sound
+-- what a first session is made of
+pub fresh-kept : {T E : Type 0} (core : CoreView T E) (flash : FlashState) (g : Geometry) (tuner : TunerView T) (picker : PickerView E)
+    (room : Room) → core ≡ fresh_core flash g tuner picker room → IsWithinLimits g → IsFreshFlash g flash → room.calls < 2 ^ 32
+    → room.turns < 2 ^ 32 → IsCoreSound core
+fresh-kept {T} {E} core flash g tuner picker room is limits fresh calls turns =
+    subst (λ (c : CoreView T E). IsCoreSound c) (sym is) (fresh-sound flash g tuner picker room limits fresh.few calls turns)
+

@@ -33,6 +33,17 @@ pub struct Room {
     pub turns: u32,
 }
 
+impl Room {
+    // Its numbers fit their types.
+    fn known(self)
+        ensures calls { self.calls < 2 ^ 32 }
+        ensures turns { self.turns < 2 ^ 32 }
+    {
+        let _calls = self.calls;
+        let _turns = self.turns;
+    }
+}
+
 /// A session over a hierarchy: the history of its answered calls, the log of its background turns, and its counts.
 #[derive(Drop)]
 pub struct Core<F: Flash, T: Tune, E: Pick> {
@@ -53,7 +64,6 @@ impl<F: Flash, T: Tune, E: Pick> Model for Core<F, T, E> {
 impl<F: Flash, T: Tune, E: Pick> Core<F, T, E> {
     /// A first session, over a flash of which every page is erased: nothing is stored, and the event number is 0. The
     /// error is want of memory, and hands the arguments back.
-    #[tactic(auto, using(crate::proofs::FreshSound::fresh_keeps))]
     pub fn fresh(
         alloc: Global,
         flash: F,
@@ -68,6 +78,7 @@ impl<F: Flash, T: Tune, E: Pick> Core<F, T, E> {
             (λ core. core ≡ fresh_core (F.state flash) geometry tuner picker room)
             (λ back. back ≡ record { flash = flash; tuner = tuner; picker = picker }) }
     {
+        room.known();
         match fresh_state(alloc, flash, geometry, tuner, picker, room) {
             Ok(state) => Ok(Core { state }),
             Err(back) => Err(back),
