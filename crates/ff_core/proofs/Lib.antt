@@ -1,7 +1,11 @@
 pub mod ActionsTold
 pub mod BackSound
+pub mod Beginning
 pub mod Counting
+pub mod Evicting
 pub mod FreshSound
+pub mod Marked
+pub mod Mays
 pub mod MemorySizes
 pub mod MissSound
 pub mod Recounting
@@ -12,3 +16,5 @@ pub mod SoundOver
 pub mod Tallied
 pub mod Timing
 pub mod TurnSound
+pub mod Turning
+pub mod Yielding

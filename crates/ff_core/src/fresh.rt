@@ -18,7 +18,7 @@ use crate::hierarchy::Hierarchy;
 use crate::log::Log;
 use crate::state::State;
 use crate::tally::Tally;
-use ff_base::{Geometry, Marks, NoMemory};
+use ff_base::{Geometry, Marks, NoMemory, PageBuf};
 use ff_cache::Cache;
 use ff_device::Device;
 use ff_evict::{Evictor, Pick, Picker};
@@ -90,23 +90,25 @@ fn make_books(alloc: Global, geometry: &Geometry, room: Room) -> Result<Books, N
     })
 }
 
-// An empty cache and an empty window.
+// An empty cache, an empty window and a page.
 #[derive(Drop)]
 struct Buffers {
     cache: Cache,
     window: Window,
+    page: PageBuf,
 }
 
 fn make_buffers(alloc: Global, geometry: &Geometry) -> Result<Buffers, NoMemory>
     requires { IsWithinLimits geometry.now }
-    ensures { IfOk result (λ buffers. buffers ≡ record {
-      cache = fresh_cache geometry.now.sets geometry.now.ways;
-      window = record { posts = []; room = geometry.now.window };
-    }) }
+    ensures cache { IfOk result (λ buffers.
+        buffers.cache ≡ fresh_cache geometry.now.sets geometry.now.ways) }
+    ensures window { IfOk result (λ buffers.
+        buffers.window ≡ record { posts = []; room = geometry.now.window }) }
 {
     Ok(Buffers {
         cache: Cache::new(alloc, geometry)?,
         window: Window::new(alloc, geometry.window)?,
+        page: PageBuf::new(alloc)?,
     })
 }
 
@@ -121,10 +123,7 @@ fn make_device<F: Flash>(alloc: Global, flash: F, geometry: &Geometry) -> Result
         return Err(flash);
     };
     let store = PageStore::new(alloc, flash, geometry)?;
-    match Device::new(alloc, store, buffers.cache, buffers.window) {
-        Ok(device) => Ok(device),
-        Err(parts) => Err(parts.store.into_flash()),
-    }
+    Ok(Device::over(store, buffers.cache, buffers.window, buffers.page))
 }
 
 // The parts of a session.

@@ -68,7 +68,6 @@ pub struct DeviceOwn<S> {
 
 impl<F: Flash> Device<F> {
     /// A device of parts of one geometry, with nothing in flight. For want of memory the parts are handed back.
-    #[tactic(auto, using(crate::proofs::Beginning::begins))]
     pub fn new(
         alloc: Global,
         store: PageStore<F>,
@@ -81,17 +80,26 @@ impl<F: Flash> Device<F> {
             (λ parts. parts ≡ record { store = store; cache = cache; window = window }) }
     {
         match PageBuf::new(alloc) {
-            Ok(page) => Ok(Device {
-                store,
-                cache,
-                window,
-                page,
-            }),
+            Ok(page) => Ok(Device::over(store, cache, window, page)),
             Err(_) => Err(DeviceParts {
                 store,
                 cache,
                 window,
             }),
+        }
+    }
+
+    /// The same with a page of the caller's, whose bytes say nothing. It takes no memory.
+    #[tactic(auto, using(crate::proofs::Beginning::begins))]
+    pub fn over(store: PageStore<F>, cache: Cache, window: Window, page: PageBuf) -> Device<F>
+        requires { CanBegin (parts_of (record { store = store; cache = cache; window = window })) }
+        ensures { result ≡ record { store = store; cache = cache; window = window } }
+    {
+        Device {
+            store,
+            cache,
+            window,
+            page,
         }
     }
 
