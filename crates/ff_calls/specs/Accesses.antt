@@ -1,5 +1,5 @@
 -- What a call that is in range asks of the memory and its device.
-use Rattle.std.specs.Prelude.{ℕ, ◌≡◌, true, false}
+use Rattle.std.specs.Prelude.{ℕ, ◌≡◌, ◌<◌, ◌^◌, false}
 use Rattle.ff_lines.specs.DeviceState.{DeviceState, IsDrained}
 use Rattle.ff_lines.specs.LineMask.{IsLineRange}
 use Rattle.ff_lines.specs.declared.line_mask.LineMask.{LineMask}
@@ -34,6 +34,7 @@ pub record IsReleasing (page from count : ℕ) (m : MemoryView) (d : DeviceState
     (m' : MemoryView) (d' : DeviceState) : Type 0 where
   pub mask : LineMask
   pub mask_is : IsLineRange from count mask
+  pub mask_fits : mask.0 < 2 ^ 64
   pub access_is : access ≡ Served Done Neither
   pub memory : m' ≡ marks_set page mask.0 false m
   pub device : d' ≡ d

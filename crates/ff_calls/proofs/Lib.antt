@@ -1,0 +1,14 @@
+pub mod BornPages
+pub mod DeviceReads
+pub mod MarkedLines
+pub mod SpanBytes
+pub mod ToldAdvanced
+pub mod ToldAnswered
+pub mod ToldBegun
+pub mod ToldFresh
+pub mod ToldLoaded
+pub mod ToldMarked
+pub mod ToldMissed
+pub mod ToldMoved
+pub mod ToldServed
+pub mod ToldStored
