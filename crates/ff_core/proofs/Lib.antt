@@ -1,0 +1,3 @@
+pub mod AskedPages
+pub mod MissedCalls
+pub mod Attempts
