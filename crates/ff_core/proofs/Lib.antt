@@ -1,3 +1,8 @@
 pub mod AskedPages
-pub mod MissedCalls
 pub mod Attempts
+pub mod Evicting
+pub mod Marked
+pub mod Mays
+pub mod MissedCalls
+pub mod Turning
+pub mod Yielding

@@ -9,13 +9,16 @@ use Rattle.ff_memory.specs.Places.{is_home}
 use Rattle.ff_memory.specs.declared.access.Access.TheVariants.{Miss}
 use Rattle.ff_model.specs.declared.op.Op.{Op}
 use Rattle.ff_model.specs.declared.op.Op.TheVariants.{Load, Store, Verify, Mark, Release}
+use Rattle.ff_core.specs.CanPerform.{CanPerform}
 use Rattle.ff_core.specs.Core.{CoreView}
 use Rattle.ff_core.specs.CoreSound.{IsCoreSound, IsCounted, IsSized, IsTimed}
 use Rattle.ff_core.specs.Hierarchy.{HierarchyView, flash_of, lines_under}
-use Rattle.ff_core.specs.Misses.{IsAbsent, IsAway, IsMissed}
+use Rattle.ff_core.specs.Misses.{IsMissAction, IsMissed}
 use Rattle.ff_core.specs.Serving.{IsAccess, page_asked}
 use Rattle.ff_core.specs.Turns.{refusal}
+use Rattle.ff_core.specs.declared.action.Action.{Action}
 use Rattle.ff_core.proofs.AskedPages.{named-page}
+use Rattle.ff_core.proofs.Mays.{help-may}
 
 -- nothing that a core keeps facts of was changed
 pub record IsLeft {T E : Type 0} (h h' : HierarchyView T E) : Type 0 where
@@ -137,3 +140,11 @@ missed-call core op position page h sound none is =
       missed = left-missed op page core.hierarchy h left
           (finds-missed core.opening.pages op page core.hierarchy low sound.told.pages found.finds);
     }
+
+-- what is done for it may be performed
+pub missed-may : {T E : Type 0} (core : CoreView T E) (op : Op) (page : PageNo) (action : Action) → IsCoreSound core
+    → IsMissed op page core.hierarchy → IsMissAction op page core.hierarchy action → CanPerform action core.hierarchy
+missed-may core op page action sound missed is =
+    let least = sound.sized.limits.plb.low in
+    let slots : length core.hierarchy.memory.slots ≡ core.geometry.plb = sound.sized.slots in
+    help-may op page core.hierarchy action is missed sound.told.located (omega arith)

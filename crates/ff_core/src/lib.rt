@@ -8,6 +8,7 @@ mod core_state;
 mod fresh;
 mod hierarchy;
 mod log;
+mod next;
 mod state;
 mod tally;
 mod turn;

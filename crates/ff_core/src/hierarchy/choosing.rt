@@ -12,12 +12,13 @@ ghost use Rattle.ff_plb.specs.declared.slot.Way.TheVariants.{Leaving};
 
 use crate::action::Action;
 use crate::hierarchy::Hierarchy;
+use crate::next::next_slot;
 use ff_base::PageNo;
 use ff_evict::Pick;
 use ff_flash::Flash;
 use ff_lines::LineDevice;
 use ff_model::{Kind, Op};
-use ff_plb::{NextStep, Way};
+use ff_plb::Way;
 use ff_policy::Tune;
 
 impl<F: Flash, T: Tune, E: Pick> Hierarchy<F, T, E> {
@@ -41,14 +42,7 @@ impl<F: Flash, T: Tune, E: Pick> Hierarchy<F, T, E> {
         ensures { MatchOption result (IsNoneMoving way self.now.memory.slots)
             (IsNextSlot way self.now.memory.slots) }
     {
-        let plb = self.memory.plb();
-        if let Some(slot) = plb.least_next(way, NextStep::Finish) {
-            return Some(slot);
-        }
-        if let Some(slot) = plb.least_next(way, NextStep::Land) {
-            return Some(slot);
-        }
-        plb.least_next(way, NextStep::Lift)
+        next_slot(self.memory.plb(), way)
     }
 
     fn promote_choice(&self) -> Option<Action>

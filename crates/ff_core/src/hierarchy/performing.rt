@@ -1,12 +1,17 @@
 // The actions of events.
-ghost use Rattle.std.specs.Prelude.{ℕ, ◌≡◌, ◌<◌, length, true};
+ghost use Rattle.std.specs.Prelude.{ℕ, ◌≡◌, ◌<◌, ◌+◌, ◌%◌, length, true};
+ghost use Rattle.ff_lines.specs.DeviceState.{IsDevice};
+ghost use Rattle.ff_lines.specs.Works.{IsIdle};
 ghost use Rattle.ff_memory.specs.Begins.{CanRetreat, IsComingSlot};
+ghost use Rattle.ff_memory.specs.Located.{IsLocated};
+ghost use Rattle.ff_memory.specs.Marking.{IsUnreferred, is_passed};
+ghost use Rattle.ff_memory.specs.Places.{SamePlaces};
 ghost use Rattle.ff_plb.specs.Plb.{IsFound, IsInUse};
 ghost use Rattle.ff_core.specs.CanPerform.{CanPerform, IsEvictable, IsGiven};
 ghost use Rattle.ff_core.specs.Choices.{CanCollect, IsPromotable};
 ghost use Rattle.ff_core.specs.Hierarchy.{lines_under};
 ghost use Rattle.ff_core.specs.Misses.{IsAbsent};
-ghost use Rattle.ff_core.specs.Performs.{HasCollected, HasDrained, HasEvicted, HasPromoted, HasRetreated, IsAdvanced, IsTurnedBack, IsWorkedFor, Performs, progress_of};
+ghost use Rattle.ff_core.specs.Performs.{HasCollected, HasDrained, HasEvicted, HasPromoted, HasRetreated, IsAdvanced, IsDeviceStep, IsTurnedBack, IsWorkedFor, Performs, progress_of};
 
 use crate::action::{Action, Progress};
 use crate::hierarchy::Hierarchy;
@@ -44,11 +49,19 @@ impl<F: Flash, T: Tune, E: Pick> Hierarchy<F, T, E> {
         Progress::Did(self.memory.advance(&mut self.device, slot))
     }
 
+    // What every device of lines keeps.
+    fn lines_known(&self)
+        ensures { IsDevice (lines_under self.now) }
+    {
+        let _ = self.device.resident(PageNo(0));
+    }
+
     fn turn_back(&mut self, slot: u32) -> Progress
         requires given { IsGiven self.old }
         requires slot { IsComingSlot self.old.memory slot }
         ensures { IsTurnedBack slot self.old result self.new }
     {
+        self.lines_known();
         self.memory.turn_back(slot);
         Progress::Did(What::Started)
     }
@@ -58,10 +71,20 @@ impl<F: Flash, T: Tune, E: Pick> Hierarchy<F, T, E> {
         requires absent { IsAbsent self.old page.0 }
         ensures { IsWorkedFor page.0 self.old result self.new }
     {
-        match self.device.work(page) {
+        match self.device_step(page) {
             Work::Pinned(other) => self.yield_to(other),
             work => progress_of(work),
         }
+    }
+
+    // The device makes a step towards the page's being resident.
+    fn device_step(&mut self, page: PageNo) -> Work
+        requires given { IsGiven self.old }
+        requires absent { IsAbsent self.old page.0 }
+        ensures step { IsDeviceStep page.0 result self.old self.new }
+        ensures idle { IsIdle result → self.new ≡ self.old }
+    {
+        self.device.work(page)
     }
 
     // The page that keeps the set makes its step.
@@ -95,6 +118,7 @@ impl<F: Flash, T: Tune, E: Pick> Hierarchy<F, T, E> {
         Progress::Did(What::Started)
     }
 
+    #[tactic(auto, using(crate::proofs::Evicting::evicted))]
     fn evict(&mut self, frame: u32) -> Progress
         requires given { IsGiven self.old }
         requires may { IsEvictable self.old frame }
@@ -103,10 +127,28 @@ impl<F: Flash, T: Tune, E: Pick> Hierarchy<F, T, E> {
         let Some(page) = self.memory.frames().page(frame) else {
             unreachable!()
         };
-        self.memory.begin_retreat(&mut self.device, page);
+        let began = self.retreat(page);
+        self.pass_to(frame);
+        began
+    }
+
+    // The evictor's hand passes the frames up to this one, and is at the frame after it.
+    fn pass_to(&mut self, frame: u32)
+        requires located { IsLocated self.old.memory (lines_under self.old) }
+        requires hand { self.old.evictor.hand < length self.old.memory.frames }
+        requires frame { frame < length self.old.memory.frames }
+        ensures passed { IsUnreferred (is_passed self.old.evictor.hand frame)
+            self.old.memory self.new.memory }
+        ensures located { IsLocated self.new.memory (lines_under self.new) }
+        ensures place { SamePlaces self.old.memory (lines_under self.old)
+            self.new.memory (lines_under self.new) }
+        ensures rest { self.new ≡ record self.old {
+          memory = self.new.memory;
+          evictor = record self.old.evictor { hand = (frame + 1) % length self.old.memory.frames };
+        } }
+    {
         self.memory.clear_referred(self.evictor.hand(), frame);
         self.evictor.chosen(self.memory.frames(), frame);
-        Progress::Did(What::Started)
     }
 
     fn collect(&mut self) -> Progress

@@ -1,0 +1,46 @@
+-- The page of the evictor's frame goes back.
+use Rattle.std.proofs.Common.{◌≡◌, ℕ, ◌<◌, ◌+◌, ◌%◌, length, Some, sym, ap, subst, ◌∙◌}
+use Rattle.ff_base.specs.declared.numbers.PageNo.{PageNo}
+use Rattle.ff_device.specs.Device.{DeviceView, lines_in}
+use Rattle.ff_frames.specs.Frames.{frame_at}
+use Rattle.ff_memory.specs.Begins.{IsRetreated}
+use Rattle.ff_memory.specs.Located.{IsLocated}
+use Rattle.ff_memory.specs.Marking.{IsUnreferred, is_passed}
+use Rattle.ff_memory.specs.Memory.{MemoryView}
+use Rattle.ff_memory.specs.Places.{SamePlaces}
+use Rattle.ff_core.specs.Hierarchy.{HierarchyView, lines_under}
+use Rattle.ff_core.specs.Performs.{HasEvicted, HasRetreated}
+use Rattle.ff_core.specs.declared.action.Progress.{Progress}
+
+-- the hand passed the frames up to this one
+pub evicted : {T E : Type 0} (page : PageNo) (frame : ℕ) (h mid h' : HierarchyView T E) (progress : Progress)
+    → (frame_at h.memory.frames frame).page ≡ Some page
+    → HasRetreated page.0 h progress mid
+    → IsUnreferred (is_passed mid.evictor.hand frame) mid.memory h'.memory
+    → IsLocated h'.memory (lines_under h')
+    → SamePlaces mid.memory (lines_under mid) h'.memory (lines_under h')
+    → h' ≡ record mid {
+      memory = h'.memory;
+      evictor = record mid.evictor { hand = (frame + 1) % length mid.memory.frames };
+    }
+    → HasEvicted frame h progress h'
+evicted {T = T} {E = E} page frame h mid h' progress holds began passed located places rest =
+    let count : length mid.memory.frames ≡ length h.memory.frames =
+    ap (λ (m : MemoryView). length m.frames) began.step.memory in
+    let evictor : mid.evictor ≡ h.evictor = ap (λ (g : HierarchyView T E). g.evictor) began.rest in
+    let policy : mid.policy ≡ h.policy = ap (λ (g : HierarchyView T E). g.policy) began.rest in
+    let device : h'.device ≡ mid.device = ap (λ (g : HierarchyView T E). g.device) rest in
+    record {
+      did = began.did;
+      page = page;
+      holds = holds;
+      between = mid.memory;
+      step = subst (λ (d : DeviceView). IsRetreated page.0 h.memory (lines_under h) mid.memory (lines_in d)) (sym device) began.step;
+      passed = rw evictor at passed;
+      moved = record {
+        located = located;
+        places = λ p line low. places p line low ∙ began.moved.places p line low;
+        store = ap (λ (d : DeviceView). d.store) device ∙ began.moved.store;
+      };
+      rest = rest ∙ (cc);
+    }
