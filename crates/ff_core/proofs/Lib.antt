@@ -1,4 +1,6 @@
 pub mod ActionsTold
+pub mod AskedPages
+pub mod Attempts
 pub mod BackSound
 pub mod Beginning
 pub mod Counting
@@ -8,6 +10,7 @@ pub mod Marked
 pub mod Mays
 pub mod MemorySizes
 pub mod MissSound
+pub mod MissedCalls
 pub mod Recounting
 pub mod Running
 pub mod Sides
