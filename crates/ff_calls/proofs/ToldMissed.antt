@@ -65,10 +65,10 @@ missed-page asked page m d m' d' is =
     ap (λ (p : PageNo). p.0) same
 
 -- nothing was done, and what was found of the page
-record MissFinds (op : Op) (page : PageNo) (m : MemoryView) (d : DeviceState) (m' : MemoryView) (d' : DeviceState) : Type 0 where
-  memory : m' ≡ m
-  device : d' ≡ d
-  finds : Finds op m d page
+pub record MissFinds (op : Op) (page : PageNo) (m : MemoryView) (d : DeviceState) (m' : MemoryView) (d' : DeviceState) : Type 0 where
+  pub memory : m' ≡ m
+  pub device : d' ≡ d
+  pub finds : Finds op m d page
 
 load-missed : (to : Option ℕ) (resident : Bool) (at len : ℕ) (bytes : List ℕ) (page : PageNo) (m : MemoryView) (d : DeviceState)
     (m' : MemoryView) (d' : DeviceState) → serving_frame m (page_of at) (line_in_page at) ≡ to → d.resident (page_of at) ≡ resident
@@ -116,7 +116,8 @@ mark-missed false marked from count lines page m d m' d' home is =
       finds = record { page_is = asked; away = ap (λ (q : ℕ). is_home m q) asked ∙ home };
     }
 
-miss-finds : (op : Op) (position : ℕ) (page : PageNo) (m : MemoryView) (d : DeviceState) (m' : MemoryView) (d' : DeviceState)
+-- what a call that missed a page found of it
+pub miss-finds : (op : Op) (position : ℕ) (page : PageNo) (m : MemoryView) (d : DeviceState) (m' : MemoryView) (d' : DeviceState)
     → Accesses op position m d (Miss page) m' d' → MissFinds op page m d m' d'
 miss-finds (Load at len) position page m d m' d' is =
     load-missed (serving_frame m (page_of at) (line_in_page at)) (d.resident (page_of at)) at len _ page m d m' d' refl refl is

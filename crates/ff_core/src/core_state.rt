@@ -2,13 +2,15 @@
 ghost use Rattle.std.specs.Prelude.{◌≡◌, ◌<◌, ◌≤◌, ◌+◌, ◌^◌, replicate, MatchResult, true};
 ghost use Rattle.ff_base.specs.Geometry.{IsWithinLimits};
 ghost use Rattle.ff_flash.specs.Cells.{erased};
+ghost use Rattle.ff_lines.specs.DeviceState.{IsDevice};
+ghost use Rattle.ff_memory.specs.Memory.{IsMemorySound};
 ghost use Rattle.ff_model.specs.Legal.{IsLegal};
 ghost use Rattle.ff_model.specs.declared.counts.Kind.TheVariants.{Promote, Evict, Collect, Drain};
 ghost use Rattle.ff_core.specs.Backs.{IsBack};
 ghost use Rattle.ff_core.specs.Core.{counts_of, spare_calls, spare_turns};
 ghost use Rattle.ff_core.specs.CoreSound.{IsCoreSound};
 ghost use Rattle.ff_core.specs.Fresh.{IsFreshFlash, fresh_core};
-ghost use Rattle.ff_core.specs.Hierarchy.{flash_of};
+ghost use Rattle.ff_core.specs.Hierarchy.{flash_of, lines_under};
 ghost use Rattle.ff_core.specs.Turns.{IsTurn};
 
 mod driving;
@@ -19,9 +21,10 @@ use crate::log::{Back, Log};
 use crate::state::State;
 use crate::turn::Turn;
 pub use ending::Ended;
-use ff_base::{Caller, Geometry};
+use ff_base::{Caller, Geometry, PageNo};
 use ff_evict::{Pick, Picker};
 use ff_flash::Flash;
+use ff_lines::LineDevice;
 use ff_model::{Counts, History, Kind, Op};
 use ff_policy::{Tune, Tuner};
 use std::alloc::Global;
@@ -32,6 +35,17 @@ use std::marker::Model;
 pub struct Room {
     pub calls: u32,
     pub turns: u32,
+}
+
+impl Room {
+    // Its numbers fit their types.
+    fn known(self)
+        ensures calls { self.calls < 2 ^ 32 }
+        ensures turns { self.turns < 2 ^ 32 }
+    {
+        let _calls = self.calls;
+        let _turns = self.turns;
+    }
 }
 
 /// A session over a hierarchy: the history of its answered calls, the log of its background turns, and its counts.
@@ -68,6 +82,7 @@ impl<F: Flash, T: Tune, E: Pick> Core<F, T, E> {
             (λ core. core ≡ fresh_core (F.state flash) geometry tuner picker room)
             (λ back. back ≡ record { flash = flash; tuner = tuner; picker = picker }) }
     {
+        room.known();
         match fresh_state(alloc, flash, geometry, tuner, picker, room) {
             Ok(state) => Ok(Core { state }),
             Err(back) => Err(back),
@@ -75,44 +90,54 @@ impl<F: Flash, T: Tune, E: Pick> Core<F, T, E> {
     }
 
     /// One event of a call, with at most one flash operation. It takes no memory. With the power off it does nothing.
+    #[tactic(auto, using(crate::proofs::TurnSound::turn_keeps))]
     pub fn turn(&mut self, caller: Caller, number: u32, op: &Op) -> Turn
         requires spare { 0 < spare_calls self.old }
         ensures { IsTurn (flash_of self.old.hierarchy).on T.answers self.old caller number op.now
             result self.new }
     {
+        self.parts_known();
         self.state.turn(caller, number, op)
     }
 
     /// Moves hot pages into frames, a step at a time. A background turn makes the one choice of its kind, and answers
     /// `Idle` exactly where there is none.
+    #[tactic(auto, using(crate::proofs::BackSound::back_keeps))]
     pub fn promote_turn(&mut self) -> Back
         requires spare { 0 < spare_turns self.old }
         ensures { IsBack (flash_of self.old.hierarchy).on E.score Promote self.old result self.new }
     {
+        self.parts_known();
         self.state.back(Kind::Promote)
     }
 
     /// Moves pages back to the device, a step at a time.
+    #[tactic(auto, using(crate::proofs::BackSound::back_keeps))]
     pub fn evict_turn(&mut self) -> Back
         requires spare { 0 < spare_turns self.old }
         ensures { IsBack (flash_of self.old.hierarchy).on E.score Evict self.old result self.new }
     {
+        self.parts_known();
         self.state.back(Kind::Evict)
     }
 
     /// Seals a flush that waits, or makes a step of the collector.
+    #[tactic(auto, using(crate::proofs::BackSound::back_keeps))]
     pub fn collect_turn(&mut self) -> Back
         requires spare { 0 < spare_turns self.old }
         ensures { IsBack (flash_of self.old.hierarchy).on E.score Collect self.old result self.new }
     {
+        self.parts_known();
         self.state.back(Kind::Collect)
     }
 
     /// Drains the oldest posted store.
+    #[tactic(auto, using(crate::proofs::BackSound::back_keeps))]
     pub fn drain_turn(&mut self) -> Back
         requires spare { 0 < spare_turns self.old }
         ensures { IsBack (flash_of self.old.hierarchy).on E.score Drain self.old result self.new }
     {
+        self.parts_known();
         self.state.back(Kind::Drain)
     }
 
@@ -121,6 +146,15 @@ impl<F: Flash, T: Tune, E: Pick> Core<F, T, E> {
         ensures { IsCoreSound self.now }
     {
         let _ = &self.state.geometry;
+    }
+
+    // What the memory and the device under a core keep.
+    fn parts_known(&self)
+        ensures memory { IsMemorySound self.now.hierarchy.memory }
+        ensures device { IsDevice (lines_under self.now.hierarchy) }
+    {
+        self.state.hierarchy.memory.known();
+        let _ = self.state.hierarchy.device.resident(PageNo(0));
     }
 
     /// The event number.
