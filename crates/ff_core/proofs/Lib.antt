@@ -1,1 +1,6 @@
 pub mod Ending
+pub mod EntrySteps
+pub mod KeptSets
+pub mod KeptSteps
+pub mod LinesLeft
+pub mod WorkFalls
