@@ -3,4 +3,6 @@ pub mod EntrySteps
 pub mod KeptSets
 pub mod KeptSteps
 pub mod LinesLeft
+pub mod MarkFalls
+pub mod RestFalls
 pub mod WorkFalls

@@ -12,8 +12,10 @@ use Rattle.ff_cache.specs.declared.slot.Slot.{Slot as CacheSlot}
 use Rattle.ff_device.specs.Device.{DeviceView, own_of, parts_of}
 use Rattle.ff_device.specs.WorkRows.{HasSealed, IsPinnedSet}
 use Rattle.ff_device.proofs.Frames.{frames_by}
+use Rattle.ff_lines.specs.DeviceState.{IsDevice}
 use Rattle.ff_lines.specs.declared.device.Work.{Work}
 use Rattle.ff_lines.specs.declared.device.Work.TheVariants.{Ready, Stepped, Failed as WorkFailed, Off as WorkOff, Pinned}
+use Rattle.ff_memory.specs.Located.{IsLocated}
 use Rattle.ff_memory.specs.Memory.{IsMemorySound, MemoryView, entry_at, home_at}
 use Rattle.ff_memory.specs.declared.access.What.{What}
 use Rattle.ff_plb.specs.Plb.{IsFound, entry_of, slot_at}
@@ -32,7 +34,9 @@ use Rattle.ff_core.proofs.LinesLeft.{entry_most}
 pub record IsStepGiven {T E : Type 0} (h h' : HierarchyView T E) : Type 0 where
   pub memory : IsMemorySound h.memory
   pub cache : IsCacheSound h.device.cache
-  pub few : (page : ℕ) → (lines_under h').steps page ≤ (lines_under h').most_steps
+  pub device : IsDevice (lines_under h)
+  pub located : IsLocated h.memory (lines_under h)
+  pub after : IsDevice (lines_under h')
 
 -- the slots hold the same pages
 pub own_page : (d d' : DeviceView) (k : ℕ) → own_of d' ≡ own_of d
@@ -77,7 +81,7 @@ sealed_falls {T = T} {E = E} page h h' given step kept =
     let memory : h'.memory ≡ h.memory = ap (λ (g : HierarchyView T E). g.memory) step.rest in
     let keeper : keeper_steps h' page ≡ keeper_steps h page = rw (memory, way) refl in
     let most : (lines_under h').most_steps ≡ (lines_under h).most_steps = step.kept.sizes.most_steps in
-    let after = events_at_most (is_kept_set h'.device.cache (lines_under h') page) h' page (given.few page) in
+    let after = events_at_most (is_kept_set h'.device.cache (lines_under h') page) h' page (given.after.few_steps page) in
     let before : events_to h page ≡ keeper_steps h page + (seals_left h + (lines_under h).most_steps) = rw kept refl in
     omega (arith, after, before, keeper, sealed, waited, most)
 
@@ -134,7 +138,7 @@ yield_falls page other slot h progress h' given pinned found is =
     let fewer = s.step.fewer in
     let seals : seals_left h' ≡ seals_left h = rw is.moved.store refl in
     let most : (lines_under h').most_steps ≡ (lines_under h).most_steps = rw is.moved.store refl in
-    let after = events_at_most (is_kept_set h'.device.cache (lines_under h') page) h' page (given.few page) in
+    let after = events_at_most (is_kept_set h'.device.cache (lines_under h') page) h' page (given.after.few_steps page) in
     let before : events_to h page ≡ keeper_steps h page + (seals_left h + (lines_under h).most_steps) = rw kept refl in
     omega (arith, after, before, old_keeper, new_keeper, fewer, seals, most)
 
