@@ -5,14 +5,20 @@ pub mod BackSound
 pub mod Beginning
 pub mod Counting
 pub mod Ending
+pub mod EntrySteps
 pub mod Evicting
 pub mod FreshSound
+pub mod KeptSets
+pub mod KeptSteps
+pub mod LinesLeft
+pub mod MarkFalls
 pub mod Marked
 pub mod Mays
 pub mod MemorySizes
 pub mod MissSound
 pub mod MissedCalls
 pub mod Recounting
+pub mod RestFalls
 pub mod Running
 pub mod Sides
 pub mod Sizes
@@ -21,4 +27,5 @@ pub mod Tallied
 pub mod Timing
 pub mod TurnSound
 pub mod Turning
+pub mod WorkFalls
 pub mod Yielding

@@ -4,6 +4,7 @@ pub mod Choices
 pub mod Core
 pub mod CoreSound
 pub mod Drives
+pub mod EventsLeft
 pub mod Fresh
 pub mod Hierarchy
 pub mod Log

@@ -19,7 +19,7 @@ use Rattle.ff_plb.specs.Plb.{IsFound, slot_at}
 use Rattle.ff_policy.specs.Policy.{promoted}
 use Rattle.ff_device.specs.Draining.{DrainsFirst}
 use Rattle.ff_device.specs.CollectTurn.{IsCollectTurn}
-use Rattle.ff_device.specs.Device.{parts_of}
+use Rattle.ff_device.specs.Device.{own_of, parts_of}
 use Rattle.ff_device.specs.StoreSteps.{CallsOnce}
 use Rattle.ff_device.specs.WorkRows.{IsPinnedSet, IsWorkStep, stop_of_work}
 use Rattle.ff_core.specs.Hierarchy.{HierarchyView, lines_under}
@@ -34,7 +34,7 @@ pub record IsMoved {T E : Type 0} (h h' : HierarchyView T E) : Type 0 where
   pub places : SamePlaces h.memory (lines_under h) h'.memory (lines_under h')
   pub store : h'.device.store ≡ h.device.store
 
--- the page in flight in a slot made its step
+-- the page in flight in a slot made its step: each slot of the cache holds the page that it held
 pub record IsAdvanced {T E : Type 0} (slot : ℕ) (h : HierarchyView T E) (progress : Progress)
     (h' : HierarchyView T E) : Type 0 where
   pub what : What
@@ -42,6 +42,7 @@ pub record IsAdvanced {T E : Type 0} (slot : ℕ) (h : HierarchyView T E) (progr
   pub step : Advances slot (slot_at h.memory.slots slot) h.memory (lines_under h) what
       h'.memory (lines_under h')
   pub moved : IsMoved h h'
+  pub own : own_of h'.device ≡ own_of h.device
   pub rest : h' ≡ record h { memory = h'.memory; device = h'.device }
 
 -- the page that comes in by a slot turned back

@@ -1,6 +1,7 @@
 -- What depends on the slots' pages and pins alone.
 use Rattle.std.proofs.Common.{◌≡◌, ◌<◌, inl, inr, ℕ, zero, suc, ◌+◌, ◌*◌, ◌%◌, Bool, true, false, not, List, refl, sym, ap, ◌∙◌, arith, Option, Some, None, get_or-set_same, get_or-set_other}
 use Rattle.std.specs.Option.{is_none}
+use Rattle.std.proofs.Math.Seq.{map-set_same}
 use Rattle.std.proofs.lemmas.Bool.{cases_eq}
 use Rattle.std.specs.Prelude.{option_map}
 use Rattle.ff_base.specs.declared.numbers.PageNo.{PageNo}
@@ -10,6 +11,7 @@ use Rattle.ff_cache.specs.declared.slot.Slot.{Slot}
 use Rattle.ff_cache.proofs.Full.{all_below_at}
 use Rattle.ff_device.specs.Changes.{Changes}
 use Rattle.ff_device.specs.Chosen.{chosen, Candidate}
+use Rattle.ff_device.specs.Device.{own_of, pages_in, DeviceView}
 use Rattle.ff_device.specs.Draining.{SameFrames}
 use Rattle.ff_device.specs.Parts.{Parts}
 use Rattle.ff_device.specs.Steps.{chosen_way, may_go_at}
@@ -33,6 +35,26 @@ frames_by page change old new changes pages pins =
         | inr apart ↦ rw (changes.is, get_or-set_other old.slots changes.place k (change slot) empty_slot apart) refl
       ];
     }
+
+-- a slot was changed, and keeps its page
+pages_kept : (page : ℕ) (change : Slot → Slot) (old new : CacheView) → Changes page change old new
+    → ((slot : Slot) → (change slot).page ≡ slot.page) → pages_in new ≡ pages_in old
+pages_kept page change old new changes pages =
+    let slot : Slot = cache_slot_at old.slots changes.place in
+    rw changes.is (map-set_same (λ (s : Slot). s.page) old.slots changes.place (change slot) empty_slot (pages slot))
+
+-- so were the store and the sizes
+pub own_kept : (page : ℕ) (change : Slot → Slot) (old new : DeviceView) → Changes page change old.cache new.cache
+    → ((slot : Slot) → (change slot).page ≡ slot.page) → new.store ≡ old.store → new.window.room ≡ old.window.room
+    → own_of new ≡ own_of old
+own_kept page change old new changes pages store room =
+    rw (
+      store,
+      room,
+      ap (λ c. c.sets) changes.is,
+      ap (λ c. c.ways) changes.is,
+      pages_kept page change old.cache new.cache changes pages,
+    ) refl
 
 all_below_same : (f h : ℕ → Bool) (n : ℕ) → ((k : ℕ) → h k ≡ f k) → all_below h n ≡ all_below f n
 all_below_same f h zero same = refl

@@ -1,5 +1,6 @@
 -- What a contract sees of a device: its parts, and the device as one of lines.
-use Rattle.std.specs.Prelude.{length}
+use Rattle.std.specs.Prelude.{List, Option, length, map}
+use Rattle.ff_base.specs.declared.numbers.PageNo.{PageNo}
 use Rattle.ff_cache.specs.Cache.{CacheView}
 use Rattle.ff_lines.specs.DeviceState.{DeviceState}
 use Rattle.ff_store.specs.PageStore.{PageStoreView}
@@ -15,6 +16,10 @@ pub record DeviceView : Type 0 where
   pub cache : CacheView
   pub window : WindowView
 
+-- the page in each slot of a cache
+abbrev pub pages_in : CacheView → List (Option PageNo)
+pages_in cache = map (λ slot. slot.page) cache.slots
+
 -- what the calls on lines leave
 abbrev pub own_of : DeviceView → DeviceOwn PageStoreView
 own_of device = record {
@@ -22,6 +27,7 @@ own_of device = record {
   sets = device.cache.sets;
   ways = device.cache.ways;
   room = device.window.room;
+  pages = pages_in device.cache;
 }
 
 -- the parts, with the store as it is seen

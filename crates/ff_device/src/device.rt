@@ -20,7 +20,7 @@ mod posting;
 mod slots;
 mod working;
 
-use ff_base::PageBuf;
+use ff_base::{PageBuf, PageNo};
 use ff_cache::Cache;
 use ff_flash::Flash;
 use ff_store::PageStore;
@@ -57,13 +57,30 @@ pub struct DeviceParts<F: Flash> {
     pub window: Window,
 }
 
-/// What the calls on lines leave of a device, for contracts alone: its store, and the sizes of its cache and window.
+/// Which page each slot of a cache holds, for contracts alone.
+#[derive(Drop)]
+pub struct SlotPages {
+    pages: Vec<Option<PageNo>>,
+}
+
+impl Model for SlotPages {
+    ghost use Rattle.std.specs.Prelude.{List, Option};
+    ghost use Rattle.ff_base.specs.declared.numbers.PageNo.{PageNo};
+
+    ghost Value = { List (Option PageNo) };
+
+    ghost view = { λ s. s.pages.items };
+}
+
+/// What the calls on lines leave of a device, for contracts alone: its store, the sizes of its cache and window, and the
+/// pages in the slots.
 #[derive(Drop)]
 pub struct DeviceOwn<S> {
     pub store: S,
     pub sets: u32,
     pub ways: u32,
     pub room: u32,
+    pub pages: SlotPages,
 }
 
 impl<F: Flash> Device<F> {

@@ -4,4 +4,4 @@
 mod device;
 mod store_steps;
 
-pub use device::{Device, DeviceOwn, DeviceParts};
+pub use device::{Device, DeviceOwn, DeviceParts, SlotPages};

@@ -11,6 +11,7 @@ use ff_flash::Flash;
 use ff_model::Op;
 use ff_policy::Tune;
 
+#[tactic(auto, using(crate::proofs::RestFalls::mark_falls, crate::proofs::RestFalls::home_events_most))]
 fn most_events(geometry: &Geometry, op: &Op) -> u32
     requires { geometry.now.per_block < 2 ^ 20 }
     ensures { result ≡ most_events geometry.now op.now }

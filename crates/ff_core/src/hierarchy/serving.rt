@@ -21,7 +21,9 @@ impl<F: Flash, T: Tune, E: Pick> Hierarchy<F, T, E> {
         requires located { IsLocated self.old.memory (lines_under self.old) }
         ensures { IsAccess op.now position self.old result self.new }
     {
-        access(&mut self.memory, &mut self.device, op, position)
+        let answer = access(&mut self.memory, &mut self.device, op, position);
+        self.device.known();
+        answer
     }
 
     // An access to the page was served by this side.
