@@ -26,7 +26,7 @@ served-page core op position access h sound none is =
     let pages = sound.sized.pages in
     let counters : length core.hierarchy.policy.counters ≡ core.geometry.pages = sound.sized.counters in
     let same : length h.policy.counters ≡ length core.hierarchy.policy.counters =
-        ap (λ (v : HierarchyView _ _). length v.policy.counters) is.rest in
+    ap (λ (v : HierarchyView _ _). length v.policy.counters) is.rest in
     let low = named-page core op sound none in
     omega arith
 
