@@ -1,8 +1,11 @@
+pub mod DriveEvents
 pub mod Ending
 pub mod EntrySteps
 pub mod KeptSets
 pub mod KeptSteps
 pub mod LinesLeft
 pub mod MarkFalls
+pub mod MissFalls
+pub mod MissRuns
 pub mod RestFalls
 pub mod WorkFalls
