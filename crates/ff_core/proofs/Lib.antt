@@ -1,4 +1,5 @@
 pub mod DriveEvents
+pub mod Driving
 pub mod Ending
 pub mod EntrySteps
 pub mod KeptSets
