@@ -1,5 +1,5 @@
 -- What a call that isn't refused at once comes to.
-use Rattle.std.proofs.Common.{◌≡◌, ◌<◌, ◌+◌, ℕ, Bool, true, Option, None, length, refl, sym, ap, subst, ◌∙◌, arith}
+use Rattle.std.proofs.Common.{◌≡◌, ◌<◌, ℕ, Bool, true, Option, None, length, ap, subst, ◌∙◌, arith}
 use Rattle.ff_base.specs.declared.numbers.Caller.{Caller}
 use Rattle.ff_base.specs.declared.numbers.PageNo.{PageNo}
 use Rattle.ff_memory.specs.declared.access.Access.{Access}
@@ -26,7 +26,7 @@ served-page core op position access h sound none is =
     let pages = sound.sized.pages in
     let counters : length core.hierarchy.policy.counters ≡ core.geometry.pages = sound.sized.counters in
     let same : length h.policy.counters ≡ length core.hierarchy.policy.counters =
-        ap (λ (v : HierarchyView _ _). length v.policy.counters) is.rest in
+    ap (λ (v : HierarchyView _ _). length v.policy.counters) is.rest in
     let low = named-page core op sound none in
     omega arith
 
