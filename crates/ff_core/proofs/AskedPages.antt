@@ -1,6 +1,5 @@
 -- A call that isn't refused is in range, and comes before the last event; the page that it names is one of the pages.
-use Rattle.std.specs.Prelude.{IsTrue}
-use Rattle.std.proofs.Common.{◌≡◌, ◌==◌, ◌<◌, ◌≤◌, ℕ, Bool, true, false, not, length, Option, Some, None, refl, arith}
+use Rattle.std.proofs.Common.{◌≡◌, ◌==◌, ◌<◌, ◌≤◌, ℕ, Bool, true, false, length, None, refl, arith}
 use Rattle.std.proofs.lemmas.Grind.{common_steps}
 use Rattle.ff_base.specs.Count.{last_event}
 use Rattle.ff_calls.proofs.ToldMarked.{line_range-page}

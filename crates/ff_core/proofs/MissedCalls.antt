@@ -1,18 +1,17 @@
 -- What a call that missed a page leaves: the core keeps what it kept, and the page isn't there.
-use Rattle.std.proofs.Common.{◌≡◌, ◌<◌, ◌≤◌, ℕ, true, length, None, refl, sym, ap, subst, ◌∙◌, arith}
+use Rattle.std.proofs.Common.{◌≡◌, ◌<◌, ℕ, length, None, sym, ap, subst, ◌∙◌, arith}
 use Rattle.ff_base.specs.declared.numbers.PageNo.{PageNo}
 use Rattle.ff_calls.proofs.ToldMissed.{Finds, miss-finds}
 use Rattle.ff_calls.specs.Told.{IsTold}
 use Rattle.ff_lines.specs.DeviceState.{DeviceState}
 use Rattle.ff_memory.specs.Memory.{MemoryView}
-use Rattle.ff_memory.specs.Places.{is_home}
 use Rattle.ff_memory.specs.declared.access.Access.TheVariants.{Miss}
 use Rattle.ff_model.specs.declared.op.Op.{Op}
 use Rattle.ff_model.specs.declared.op.Op.TheVariants.{Load, Store, Verify, Mark, Release}
 use Rattle.ff_core.specs.CanPerform.{CanPerform}
 use Rattle.ff_core.specs.Core.{CoreView}
 use Rattle.ff_core.specs.CoreSound.{IsCoreSound, IsCounted, IsSized, IsTimed}
-use Rattle.ff_core.specs.Hierarchy.{HierarchyView, flash_of, lines_under}
+use Rattle.ff_core.specs.Hierarchy.{HierarchyView, lines_under}
 use Rattle.ff_core.specs.Misses.{IsMissAction, IsMissed}
 use Rattle.ff_core.specs.Serving.{IsAccess, page_asked}
 use Rattle.ff_core.specs.Turns.{refusal}
@@ -101,21 +100,12 @@ finds-missed pages (Mark marked from count) page h low size finds =
     record { in_range = omega arith; away = finds.away }
 finds-missed pages (Release released from count) page h low size finds = finds
 
-left-missed : {T E : Type 0} (op : Op) (page : PageNo) (h h' : HierarchyView T E) → IsLeft h h' → IsMissed op page h → IsMissed op page h'
-left-missed (Load at len) page h h' left is = record {
-  in_range = rw left.memory is.in_range;
-  absent = ap (λ (d : DeviceState). d.resident page.0) left.lines ∙ is.absent;
-}
-left-missed (Store at bytes) page h h' left is = record {
-  in_range = rw left.memory is.in_range;
-  absent = ap (λ (d : DeviceState). d.resident page.0) left.lines ∙ is.absent;
-}
-left-missed Verify page h h' left is = is
-left-missed (Mark marked from count) page h h' left is = record {
-  in_range = rw left.memory is.in_range;
-  away = ap (λ (m : MemoryView). is_home m page.0) left.memory ∙ is.away;
-}
-left-missed (Release released from count) page h h' left is = is
+-- what is found of a page, where nothing was changed
+left-finds : {T E : Type 0} (op : Op) (page : PageNo) (h h' : HierarchyView T E) → IsLeft h h'
+    → Finds op h.memory (lines_under h) page → Finds op h'.memory (lines_under h') page
+left-finds op page h h' left finds =
+    subst (λ (m : MemoryView). Finds op m (lines_under h') page) (sym left.memory)
+    (subst (λ (d : DeviceState). Finds op h.memory d page) (sym left.lines) finds)
 
 -- a call missed a page: the core is as sound as before, and the page isn't there
 pub record IsMissedCall {T E : Type 0} (core : CoreView T E) (op : Op) (page : PageNo) (h : HierarchyView T E) : Type 0 where
@@ -137,8 +127,9 @@ missed-call core op position page h sound none is =
     let low = named-page core op sound none in
     record {
       sound = left-sound core h left sound;
-      missed = left-missed op page core.hierarchy h left
-          (finds-missed core.opening.pages op page core.hierarchy low sound.told.pages found.finds);
+      missed = finds-missed core.opening.pages op page h low
+          (ap (λ (m : MemoryView). length m.table.homes) left.memory ∙ sound.told.pages)
+          (left-finds op page core.hierarchy h left found.finds);
     }
 
 -- what is done for it may be performed

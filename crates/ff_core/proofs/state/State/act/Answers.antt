@@ -1,5 +1,4 @@
 -- What a turn chose may be performed.
-use Rattle.ff_core.specs.Choices.{IsChoice}
 use Rattle.ff_core.proofs.Mays.{choice-may}
 use Rattle.ff_core.proofs.state.State.act.Goals as goal
 
