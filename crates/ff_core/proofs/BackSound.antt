@@ -22,8 +22,8 @@ use Rattle.ff_core.specs.declared.action.Progress.TheVariants.{Did, Failed, Off}
 use Rattle.ff_core.specs.declared.log.Back.{Back}
 use Rattle.ff_core.specs.declared.log.Back.TheVariants.{Did as BackDid, Failed as BackFailed, Idle, Spent}
 use Rattle.ff_core.proofs.ActionsTold.{performs-tells}
-use Rattle.ff_core.proofs.Recounting.{recounted-cut, recounted-failed, recounted-turned}
-use Rattle.ff_core.proofs.Running.{Runs, performs-runs, runs-still}
+use Rattle.ff_core.proofs.Recounting.{recounted-failed, recounted-still, recounted-turned}
+use Rattle.ff_core.proofs.Running.{Runs, fails-cut, performs-runs, runs-still}
 use Rattle.ff_core.proofs.Sizes.{performs-parts}
 use Rattle.ff_core.proofs.SoundOver.{IsLeft, counted-alike, sound-over, still-parts}
 use Rattle.ff_core.proofs.Tallied.{CountsAlike, CountsTurn, after-moves, chosen-turn, performs-alike}
@@ -124,7 +124,7 @@ acted-sound Off action kind old h sound on going is runs turns alike told =
       turns = refl;
       told = told;
       later = later-cut old h sound.timed runs.opened runs.one_more runs.stops.0;
-      counts = recounted-cut old h alike runs;
+      counts = recounted-still old h alike (fails-cut old.hierarchy.device.store h.device.store runs);
     })
 
 -- a turn by what it chose

@@ -135,4 +135,3 @@ pub fresh-kept : {T E : Type 0} (core : CoreView T E) (flash : FlashState) (g : 
     → room.turns < 2 ^ 32 → IsCoreSound core
 fresh-kept {T} {E} core flash g tuner picker room is limits fresh calls turns =
     subst (λ (c : CoreView T E). IsCoreSound c) (sym is) (fresh-sound flash g tuner picker room limits fresh.few calls turns)
-
