@@ -1,5 +1,5 @@
 -- What a call that isn't refused at once comes to.
-use Rattle.std.proofs.Common.{◌≡◌, ◌<◌, ◌+◌, ℕ, None, length, refl, sym, ap, subst, ◌∙◌, arith}
+use Rattle.std.proofs.Common.{◌≡◌, ◌<◌, ◌+◌, ℕ, Bool, true, Option, None, length, refl, sym, ap, subst, ◌∙◌, arith}
 use Rattle.ff_base.specs.declared.numbers.Caller.{Caller}
 use Rattle.ff_base.specs.declared.numbers.PageNo.{PageNo}
 use Rattle.ff_memory.specs.declared.access.Access.{Access}
@@ -13,7 +13,7 @@ use Rattle.ff_core.specs.CoreSound.{IsCoreSound}
 use Rattle.ff_core.specs.Hierarchy.{HierarchyView, flash_of}
 use Rattle.ff_core.specs.Serving.{IsAccess, PolicyAfter, page_asked}
 use Rattle.ff_core.specs.Tally.{served_by}
-use Rattle.ff_core.specs.Turns.{IsAttempt, IsMissStep, answered, refusal}
+use Rattle.ff_core.specs.Turns.{IsAttempt, IsMissStep, IsTurn, IsTurnBy, answered, refusal}
 use Rattle.ff_core.specs.declared.turn.Turn.{Turn}
 use Rattle.ff_core.specs.declared.turn.Turn.TheVariants.{Served}
 use Rattle.ff_core.proofs.AskedPages.{named-page}
@@ -69,3 +69,12 @@ attempt-missed answers old new between caller number op position page turn at is
       access = subst (λ n. IsAccess op n old.hierarchy (Miss page) between) at is;
       step = step;
     }
+
+-- with the power on, a call that isn't refused at once has its event
+pub attempt-turn : {T E : Type 0} (answers : T → ℕ → ℕ → ℕ → ℕ → Type 0) (old new : CoreView T E) (caller : Caller) (number : ℕ)
+    (op : Op) (turn : Turn) → true ≡ (flash_of old.hierarchy).on → None ≡ refusal old.opening.pages old.events op
+    → IsAttempt answers old caller number op turn new
+    → IsTurn (flash_of old.hierarchy).on answers old caller number op turn new
+attempt-turn answers old new caller number op turn on allowed attempt =
+    subst (λ (b : Bool). IsTurn b answers old caller number op turn new) on
+    (subst (λ (r : Option Reply). IsTurnBy r answers old caller number op turn new) allowed attempt)
