@@ -1,5 +1,5 @@
 -- The page of the evictor's frame goes back.
-use Rattle.std.proofs.Common.{◌≡◌, ℕ, ◌<◌, ◌+◌, ◌%◌, length, Some, sym, ap, subst, ◌∙◌}
+use Rattle.std.proofs.Common.{◌≡◌, ℕ, ◌+◌, ◌%◌, length, Some, sym, ap, subst, ◌∙◌}
 use Rattle.ff_base.specs.declared.numbers.PageNo.{PageNo}
 use Rattle.ff_device.specs.Device.{DeviceView, lines_in}
 use Rattle.ff_frames.specs.Frames.{frame_at}

@@ -1,6 +1,6 @@
 -- What is chosen, and what is done for a call that missed, may be performed.
-use Rattle.std.specs.Prelude.{IfSome, IsSome, is_none}
-use Rattle.std.proofs.Common.{◌≡◌, ◌<◌, ℕ, Bool, true, false, List, length, Option, None, Some, inl, inr, refl, sym, ap, subst, ◌∙◌, arith}
+use Rattle.std.specs.Prelude.{is_none}
+use Rattle.std.proofs.Common.{◌≡◌, ◌<◌, ℕ, Bool, false, List, length, Option, None, Some, inl, inr, refl, sym, ap, ◌∙◌}
 use Rattle.std.proofs.lemmas.Bool.{cases_lt}
 use Rattle.std.proofs.lemmas.List.{get_or_past}
 use Rattle.std.proofs.lemmas.Option.{none-some, same_Some}
@@ -8,24 +8,23 @@ use Rattle.ff_base.specs.declared.numbers.PageNo.{PageNo}
 use Rattle.ff_frames.specs.Frame.{free_frame}
 use Rattle.ff_frames.specs.Frames.{frame_at}
 use Rattle.ff_frames.specs.declared.frame.Frame.{Frame}
-use Rattle.ff_memory.specs.Begins.{CanRetreat, IsComingSlot}
 use Rattle.ff_memory.specs.Located.{IsLocated}
 use Rattle.ff_memory.specs.Memory.{MemoryView, entry_at, home_at}
-use Rattle.ff_memory.specs.Places.{Holds, frame_of_home, frame_of_page}
+use Rattle.ff_memory.specs.Places.{Holds, frame_of_home}
 use Rattle.ff_model.specs.declared.counts.Kind.{Kind}
 use Rattle.ff_model.specs.declared.counts.Kind.TheVariants.{Promote as PromoteKind, Evict as EvictKind, Collect as CollectKind, Drain as DrainKind}
 use Rattle.ff_model.specs.declared.op.Op.{Op}
 use Rattle.ff_model.specs.declared.op.Op.TheVariants.{Load, Store, Verify, Mark, Release}
-use Rattle.ff_plb.specs.Plb.{IsEmpty, IsFound, IsInUse, IsNoneEmpty, slot_at}
+use Rattle.ff_plb.specs.Plb.{IsFound, IsInUse, IsNoneEmpty, slot_at}
 use Rattle.ff_plb.specs.declared.slot.Slot.{Slot}
 use Rattle.ff_plb.specs.declared.slot.Way.{Way}
 use Rattle.ff_plb.specs.declared.slot.Way.TheVariants.{Coming, Leaving}
 use Rattle.ff_table.specs.declared.table.Home.{Home}
 use Rattle.ff_table.specs.declared.table.Home.TheVariants.{Ssd, Host}
-use Rattle.ff_core.specs.CanPerform.{CanPerform, IsEvictable}
+use Rattle.ff_core.specs.CanPerform.{CanPerform}
 use Rattle.ff_core.specs.Choices.{CollectChoice, DrainChoice, EvictChoice, IsChoice, IsEvicted, IsNextSlot, PromoteChoice, finishes, lands, lifts}
 use Rattle.ff_core.specs.Hierarchy.{HierarchyView, lines_under}
-use Rattle.ff_core.specs.Misses.{IsAbsent, IsActionAtRest, IsAway, IsMarkAction, IsMissAction, IsMissed, action_in_flight, in_flight, at_rest, waits_for_slot, works, retreats}
+use Rattle.ff_core.specs.Misses.{IsActionAtRest, IsAway, IsMarkAction, IsMissAction, IsMissed, action_in_flight, in_flight, at_rest, waits_for_slot, works, retreats}
 use Rattle.ff_core.specs.declared.action.Action.{Action}
 use Rattle.ff_core.specs.declared.action.Action.TheVariants.{Advance, TurnBack, Work, Promote, Retreat, Evict, Collect, Drain}
 

@@ -1,5 +1,5 @@
 -- A step of work where each way of the page's set is pinned is that of the page in the least way.
-use Rattle.std.proofs.Common.{◌≡◌, ℕ, sym, subst}
+use Rattle.std.proofs.Common.{◌≡◌, ℕ, subst}
 use Rattle.ff_base.specs.declared.numbers.PageNo.{PageNo}
 use Rattle.ff_device.specs.Device.{parts_of}
 use Rattle.ff_device.specs.Parts.{Parts}

@@ -1,12 +1,9 @@
 // How a first session begins.
-ghost use Rattle.std.specs.Prelude.{◌≡◌, ◌*◌, ◌≤◌, ◌^◌, replicate, true, IfOk, IfErr, MatchResult, []};
+ghost use Rattle.std.specs.Prelude.{◌≡◌, replicate, IfOk, IfErr, MatchResult, []};
 ghost use Rattle.ff_base.specs.Geometry.{IsWithinLimits, capacity_of};
 ghost use Rattle.ff_cache.specs.Cache.{fresh_cache};
-ghost use Rattle.ff_flash.specs.Cells.{erased};
-ghost use Rattle.ff_flash.specs.FlashState.{FlashState};
 ghost use Rattle.ff_memory.specs.Memory.{fresh_memory};
 ghost use Rattle.ff_model.specs.Image.{empty_content};
-ghost use Rattle.ff_store.specs.PageStore.{new_store};
 ghost use Rattle.ff_table.specs.Table.{fresh_table};
 ghost use Rattle.ff_gc.specs.Counts.{no_counts};
 ghost use Rattle.ff_model.specs.Legal.{opening_of};

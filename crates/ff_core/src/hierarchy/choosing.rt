@@ -1,10 +1,7 @@
 // The choices of the background turns, and what is done for a call that missed.
-ghost use Rattle.std.specs.Prelude.{◌≡◌, ◌<◌, ℕ, length, MatchOption, true, false, IsTrue, ◌↔◌};
+ghost use Rattle.std.specs.Prelude.{◌≡◌, ◌<◌, ℕ, length, MatchOption, IsTrue, ◌↔◌};
 ghost use Rattle.ff_evict.specs.Evictor.{IsHandInside};
-ghost use Rattle.ff_memory.specs.Located.{IsLocated};
-ghost use Rattle.ff_memory.specs.Places.{is_home};
 ghost use Rattle.ff_core.specs.Choices.{CollectChoice, DrainChoice, EvictChoice, IsChoice, IsLeastPromotable, IsNextSlot, IsNoneMoving, IsPromotable, PromoteChoice};
-ghost use Rattle.ff_core.specs.Hierarchy.{lines_under};
 ghost use Rattle.ff_core.specs.Misses.{IsActionAtRest, IsMarkAction, IsMissAction, IsMissed, action_in_flight};
 ghost use Rattle.ff_plb.specs.Plb.{HasEntry, IsInUse};
 ghost use Rattle.ff_plb.specs.declared.slot.Slot.{Slot};
@@ -26,7 +23,6 @@ impl<F: Flash, T: Tune, E: Pick> Hierarchy<F, T, E> {
     pub(crate) fn choice(&self, kind: Kind) -> Option<Action>
         requires counters { length self.now.policy.counters ≡ length self.now.memory.table.homes }
         requires hand { IsHandInside self.now.evictor.hand self.now.memory.frames }
-        requires located { IsLocated self.now.memory (lines_under self.now) }
         ensures { IsChoice E.score kind self.now result }
     {
         match kind {
@@ -86,7 +82,6 @@ impl<F: Flash, T: Tune, E: Pick> Hierarchy<F, T, E> {
 
     fn evict_choice(&self) -> Option<Action>
         requires hand { IsHandInside self.now.evictor.hand self.now.memory.frames }
-        requires located { IsLocated self.now.memory (lines_under self.now) }
         ensures { EvictChoice E.score self.now result }
     {
         match self.next_slot(Way::Leaving) {
@@ -137,7 +132,6 @@ impl<F: Flash, T: Tune, E: Pick> Hierarchy<F, T, E> {
     // What is done for a load, a store or a mark that missed this page.
     pub(crate) fn miss_action(&self, op: &Op, page: PageNo) -> Action
         requires missed { IsMissed op.now page self.now }
-        requires located { IsLocated self.now.memory (lines_under self.now) }
         ensures { IsMissAction op.now page self.now result }
     {
         match op {

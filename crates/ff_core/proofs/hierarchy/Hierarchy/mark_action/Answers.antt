@@ -1,4 +1,4 @@
-use Rattle.std.proofs.Common.{ℕ, List, Option, ap, subst, ◌∙◌}
+use Rattle.std.proofs.Common.{List, Option, ap, subst, ◌∙◌}
 use Rattle.ff_plb.specs.Plb.{IsFound}
 use Rattle.ff_plb.specs.declared.slot.Slot.{Slot}
 use Rattle.ff_core.specs.Hierarchy.{HierarchyView}
