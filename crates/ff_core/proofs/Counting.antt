@@ -1,14 +1,12 @@
 -- What is counted is what the history and the log tell.
-use Rattle.std.proofs.Common.{◌≡◌, ◌≤◌, ◌<◌, ◌+◌, ◌-◌, ◌∷◌, ◌++◌, [], ℕ, Bool, true, false, cond, List, count_by, refl, sym, ap, ◌∙◌, arith}
+use Rattle.std.proofs.Common.{◌≡◌, ◌≤◌, ◌+◌, ◌∷◌, ◌++◌, [], ℕ, Bool, cond, List, count_by, sym, ap, arith}
 use Rattle.std.specs.Prelude.{IsSome}
 use Rattle.std.proofs.lemmas.List.Sums.{sum_by-append}
 use Rattle.ff_model.specs.History.{Entries}
-use Rattle.ff_model.specs.declared.history.Entry.{Entry}
 use Rattle.ff_core.specs.Core.{CoreView}
 use Rattle.ff_core.specs.CoreSound.{IsCounted, has_failed, has_fault, is_promotion, is_served_access}
 use Rattle.ff_core.specs.Hierarchy.{HierarchyView, flash_of}
 use Rattle.ff_core.specs.Log.{LogView}
-use Rattle.ff_core.specs.declared.log.Turned.{Turned}
 use Rattle.ff_core.specs.declared.tally.Tally.{Tally}
 use Rattle.ff_core.proofs.Running.{FailsBy}
 use Rattle.ff_core.proofs.Tallied.{CountsAlike, moves_of}

@@ -1,13 +1,13 @@
 -- A core stays sound where a call misses a page and a step is made for it.
-use Rattle.std.proofs.Common.{◌≡◌, ◌≤◌, ◌<◌, ◌+◌, ℕ, true, Option, None, Some, refl, sym, ap, ◌∙◌, subst, arith}
+use Rattle.std.proofs.Common.{◌≡◌, ◌<◌, ℕ, true, refl, sym, ap, ◌∙◌, subst, arith}
 use Rattle.ff_base.specs.Count.{last_event}
 use Rattle.ff_base.specs.declared.numbers.Caller.{Caller}
 use Rattle.ff_base.specs.declared.numbers.PageNo.{PageNo}
 use Rattle.ff_calls.specs.Told.{IsTold}
 use Rattle.ff_calls.proofs.ToldAnswered.{told-fault}
-use Rattle.ff_calls.proofs.ToldMissed.{HasMissed, told-missed}
-use Rattle.ff_lines.specs.DeviceState.{DeviceState, IsDevice}
-use Rattle.ff_memory.specs.Memory.{IsMemorySound, MemoryView}
+use Rattle.ff_calls.proofs.ToldMissed.{told-missed}
+use Rattle.ff_lines.specs.DeviceState.{IsDevice}
+use Rattle.ff_memory.specs.Memory.{IsMemorySound}
 use Rattle.ff_memory.specs.declared.access.Access.TheVariants.{Miss as AccessMiss}
 use Rattle.ff_model.specs.Legal.{due_reply, is_served, may_fault}
 use Rattle.ff_model.specs.Spans.{is_in_range}
@@ -34,7 +34,7 @@ use Rattle.ff_core.proofs.ActionsTold.{performs-tells}
 use Rattle.ff_core.proofs.Recounting.{recounted-fault, recounted-stepped, recounted-still}
 use Rattle.ff_core.proofs.Running.{Runs, fails-cut, fails-none, performs-runs, runs-same}
 use Rattle.ff_core.proofs.Sizes.{access-parts, performs-parts}
-use Rattle.ff_core.proofs.SoundOver.{IsLeft, counted-alike, sound-over}
+use Rattle.ff_core.proofs.SoundOver.{counted-alike, sound-over}
 use Rattle.ff_core.proofs.Tallied.{CountsAlike, after-moves, after-promoted, performs-alike}
 use Rattle.ff_core.proofs.Timing.{later-cut, later-fault, later-looked, later-stepped}
 

@@ -1,22 +1,19 @@
 -- What each event adds to what is counted.
-use Rattle.std.proofs.Common.{◌≡◌, ◌≤◌, ◌<◌, ◌+◌, ℕ, Bool, true, false, cond, refl, sym, ap, ◌∙◌, arith, count_by}
-use Rattle.std.specs.Prelude.{IsSome}
+use Rattle.std.proofs.Common.{◌≡◌, ◌≤◌, ◌<◌, ◌+◌, ℕ, Bool, true, false, cond, refl, arith}
 use Rattle.ff_base.specs.Count.{last_event}
 use Rattle.ff_base.specs.declared.numbers.Caller.{Caller}
 use Rattle.ff_flash.specs.declared.flash.FlashStop.TheVariants.{Failed as FailedStop}
-use Rattle.ff_gc.specs.declared.counts.Counts.{Counts as FlashCounts}
 use Rattle.ff_model.specs.declared.counts.Kind.{Kind}
 use Rattle.ff_model.specs.declared.history.Entry.{Entry}
 use Rattle.ff_model.specs.declared.op.Op.{Op}
 use Rattle.ff_model.specs.declared.op.Op.TheVariants.{Load, Store, Verify, Mark, Release}
 use Rattle.ff_model.specs.declared.op.Reply.{Reply}
 use Rattle.ff_model.specs.declared.op.Reply.TheVariants.{Fault}
-use Rattle.ff_store.specs.PageStore.{PageStoreView}
-use Rattle.std.specs.Prelude.{Option, None, Some}
+use Rattle.std.specs.Prelude.{None, Some}
 use Rattle.ff_core.specs.Backs.{turned_now, with_turn}
 use Rattle.ff_core.specs.Core.{CoreView, entry_now, next_number, with_entry}
 use Rattle.ff_core.specs.CoreSound.{has_failed, has_fault, is_failed, is_fault, is_promotion, is_promotion_by, is_served_access, is_served_op}
-use Rattle.ff_core.specs.Hierarchy.{HierarchyView, flash_of}
+use Rattle.ff_core.specs.Hierarchy.{HierarchyView}
 use Rattle.ff_core.specs.declared.log.Back.{Back}
 use Rattle.ff_core.specs.declared.tally.Tally.{Tally}
 use Rattle.ff_core.proofs.Counting.{IsRecounted, count-more}

@@ -1,5 +1,5 @@
 -- What an action makes of the flash under the hierarchy: at most one operation.
-use Rattle.std.proofs.Common.{◌≡◌, ◌≤◌, ◌+◌, ℕ, Bool, true, false, Option, Some, None, refl, sym, ap, ◌∙◌, arith}
+use Rattle.std.proofs.Common.{◌≡◌, ◌≤◌, ◌+◌, ℕ, Bool, true, false, Option, Some, None, refl, ap, ◌∙◌, arith}
 use Rattle.std.specs.Prelude.{IsSome}
 use Rattle.std.specs.Option.{is_some}
 use Rattle.ff_flash.specs.FlashState.{FlashState, Operates}
@@ -17,7 +17,7 @@ use Rattle.ff_device.specs.StoreSteps.{CallsOnce}
 use Rattle.ff_device.specs.WorkRows.{stop_of_work}
 use Rattle.ff_core.specs.CoreSound.{IsSince}
 use Rattle.ff_core.specs.Hierarchy.{HierarchyView, flash_of}
-use Rattle.ff_core.specs.Performs.{HasCollected, HasDrained, HasEvicted, HasPromoted, HasRetreated, IsAdvanced, IsMoved, IsTurnedBack, IsWorkedFor, Performs, collect_progress, progress_of, steps, yields}
+use Rattle.ff_core.specs.Performs.{HasCollected, IsAdvanced, IsMoved, IsWorkedFor, Performs, collect_progress, progress_of, steps, yields}
 use Rattle.ff_core.specs.declared.action.Action.{Action}
 use Rattle.ff_core.specs.declared.action.Action.TheVariants.{Advance, TurnBack, Work as WorkFor, Promote, Retreat, Evict, Collect, Drain}
 use Rattle.ff_core.specs.declared.action.Progress.{Progress}

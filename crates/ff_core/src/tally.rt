@@ -32,7 +32,8 @@ impl Tally {
 
     // An action did this.
     pub(crate) fn count(&mut self, action: Action, what: What)
-        requires { self.old.landed + self.old.dropped + self.old.promoted + self.old.retreated < 2 ^ 63 }
+        requires { self.old.landed + self.old.dropped + self.old.promoted + self.old.retreated
+            < 2 ^ 63 }
         ensures { self.new ≡ did_what action what self.old }
     {
         match what {
