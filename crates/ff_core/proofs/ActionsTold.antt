@@ -1,5 +1,5 @@
 -- What a history says still stands after each action.
-use Rattle.std.proofs.Common.{◌≡◌, ◌≤◌, ℕ, List, refl, sym, ap, subst}
+use Rattle.std.proofs.Common.{◌≡◌, ◌≤◌, ℕ, List, sym, ap, subst}
 use Rattle.ff_calls.specs.Told.{IsTold}
 use Rattle.ff_calls.proofs.ToldAdvanced.{told-advanced}
 use Rattle.ff_calls.proofs.ToldBegun.{told-evicted, told-promoted, told-retreated, told-turned}

@@ -1,5 +1,5 @@
 -- A core stays sound after a background turn.
-use Rattle.std.proofs.Common.{◌≡◌, ◌≤◌, ◌<◌, ◌+◌, ◌==◌, ℕ, Bool, true, false, cond, Option, None, Some, refl, sym, ap, ◌∙◌, subst, arith}
+use Rattle.std.proofs.Common.{◌≡◌, ◌<◌, ◌==◌, ℕ, Bool, true, false, Option, None, Some, refl, sym, ap, ◌∙◌, subst, arith}
 use Rattle.std.proofs.lemmas.Bool.{eqb-false}
 use Rattle.ff_base.specs.Count.{last_event}
 use Rattle.ff_calls.specs.Told.{IsTold}
@@ -8,7 +8,7 @@ use Rattle.ff_memory.specs.Memory.{IsMemorySound}
 use Rattle.ff_memory.specs.declared.access.What.{What}
 use Rattle.ff_model.specs.declared.counts.Kind.{Kind}
 use Rattle.ff_model.specs.declared.counts.Kind.TheVariants.{Promote as PromoteKind, Evict as EvictKind, Collect as CollectKind, Drain as DrainKind}
-use Rattle.ff_core.specs.Backs.{IsBack, IsBackAt, IsBackBy, IsChosenBack, IsPerformed, back_of, core_after, rested, turned_now, with_turn}
+use Rattle.ff_core.specs.Backs.{IsBack, IsBackAt, IsBackBy, back_of, core_after, rested, turned_now, with_turn}
 use Rattle.ff_core.specs.Choices.{IsChoice}
 use Rattle.ff_core.specs.Core.{CoreView, next_number}
 use Rattle.ff_core.specs.CoreSound.{IsCoreSound, is_failed, is_promotion_by}
@@ -20,12 +20,12 @@ use Rattle.ff_core.specs.declared.action.Action.TheVariants.{Advance, TurnBack, 
 use Rattle.ff_core.specs.declared.action.Progress.{Progress}
 use Rattle.ff_core.specs.declared.action.Progress.TheVariants.{Did, Failed, Off}
 use Rattle.ff_core.specs.declared.log.Back.{Back}
-use Rattle.ff_core.specs.declared.log.Back.TheVariants.{Did as BackDid, Failed as BackFailed, Idle, Spent}
+use Rattle.ff_core.specs.declared.log.Back.TheVariants.{Failed as BackFailed, Idle, Spent}
 use Rattle.ff_core.proofs.ActionsTold.{performs-tells}
-use Rattle.ff_core.proofs.Recounting.{recounted-cut, recounted-failed, recounted-turned}
-use Rattle.ff_core.proofs.Running.{Runs, performs-runs, runs-still}
+use Rattle.ff_core.proofs.Recounting.{recounted-failed, recounted-still, recounted-turned}
+use Rattle.ff_core.proofs.Running.{Runs, fails-cut, performs-runs, runs-still}
 use Rattle.ff_core.proofs.Sizes.{performs-parts}
-use Rattle.ff_core.proofs.SoundOver.{IsLeft, counted-alike, sound-over, still-parts}
+use Rattle.ff_core.proofs.SoundOver.{counted-alike, sound-over, still-parts}
 use Rattle.ff_core.proofs.Tallied.{CountsAlike, CountsTurn, after-moves, chosen-turn, performs-alike}
 use Rattle.ff_core.proofs.Timing.{later-cut, later-looked, later-stepped}
 
@@ -124,7 +124,7 @@ acted-sound Off action kind old h sound on going is runs turns alike told =
       turns = refl;
       told = told;
       later = later-cut old h sound.timed runs.opened runs.one_more runs.stops.0;
-      counts = recounted-cut old h alike runs;
+      counts = recounted-still old h alike (fails-cut old.hierarchy.device.store h.device.store runs);
     })
 
 -- a turn by what it chose

@@ -1,15 +1,14 @@
 -- What is counted is what the history and the log tell.
-use Rattle.std.proofs.Common.{◌≡◌, ◌≤◌, ◌<◌, ◌+◌, ◌-◌, ◌∷◌, ◌++◌, [], ℕ, Bool, true, false, cond, List, count_by, refl, sym, ap, ◌∙◌, arith}
+use Rattle.std.proofs.Common.{◌≡◌, ◌≤◌, ◌+◌, ◌∷◌, ◌++◌, [], ℕ, Bool, cond, List, count_by, sym, ap, arith}
 use Rattle.std.specs.Prelude.{IsSome}
 use Rattle.std.proofs.lemmas.List.Sums.{sum_by-append}
 use Rattle.ff_model.specs.History.{Entries}
-use Rattle.ff_model.specs.declared.history.Entry.{Entry}
 use Rattle.ff_core.specs.Core.{CoreView}
-use Rattle.ff_core.specs.CoreSound.{IsCounted, IsSince, has_failed, has_fault, is_promotion, is_served_access}
+use Rattle.ff_core.specs.CoreSound.{IsCounted, has_failed, has_fault, is_promotion, is_served_access}
 use Rattle.ff_core.specs.Hierarchy.{HierarchyView, flash_of}
 use Rattle.ff_core.specs.Log.{LogView}
-use Rattle.ff_core.specs.declared.log.Turned.{Turned}
 use Rattle.ff_core.specs.declared.tally.Tally.{Tally}
+use Rattle.ff_core.proofs.Running.{FailsBy}
 use Rattle.ff_core.proofs.Tallied.{CountsAlike, moves_of}
 
 -- one more passes a test, or doesn't
@@ -32,10 +31,7 @@ pub record IsRecounted {T E : Type 0} (core : CoreView T E) (history : Entries) 
   pub failures : ℕ
   pub told : count_by has_fault history.entries + count_by has_failed log.turns
       ≡ count_by has_fault core.history.entries + count_by has_failed core.log.turns + failures
-  pub faults : (flash_of core.hierarchy).faults + failures ≤ (flash_of h).faults
-  pub plan : (flash_of h).plan ≡ (flash_of core.hierarchy).plan
-  pub planned : IsSome (flash_of core.hierarchy).plan → (flash_of h).faults ≡ (flash_of core.hierarchy).faults + failures
-  pub since : IsSince core.hierarchy.device.store.world.counts h.device.store.world.counts
+  pub fails : FailsBy failures core.hierarchy.device.store h.device.store
 
 pub counted-over : {T E : Type 0} (core : CoreView T E) (history : Entries) (events : ℕ) (log : LogView) (tally : Tally)
     (h : HierarchyView T E) → IsCounted core → core.opening.event ≤ core.events → IsRecounted core history events log tally h
@@ -49,9 +45,9 @@ counted-over core history events log tally h counted from_on more =
     let moves' = more.moves in
     let told = more.told in
     let faults = counted.faults in
-    let faults' = more.faults in
+    let faults' = more.fails.faults in
     let one = counted.kinds in
-    let two = more.since in
+    let two = more.fails.since in
     record {
       served = omega arith;
       promotions = omega arith;
@@ -61,9 +57,9 @@ counted-over core history events log tally h counted from_on more =
       moves = omega arith;
       faults = omega arith;
       planned = λ some.
-          let plan : IsSome (flash_of core.hierarchy).plan = rw (sym more.plan) some in
+          let plan : IsSome (flash_of core.hierarchy).plan = rw (sym more.fails.plan) some in
           let same = counted.planned plan in
-          let rose = more.planned plan in
+          let rose = more.fails.planned plan in
           omega arith;
       kinds = record {
         reads = omega (arith, one.reads, two.reads);

@@ -1,29 +1,26 @@
 -- A first session is sound.
-use Rattle.std.proofs.Common.{◌≡◌, ◌≤◌, ◌<◌, ◌+◌, ◌-◌, ◌*◌, ◌^◌, ℕ, false, true, List, [], Option, None, Some, is_some, length, get_or, map, replicate, refl, sym, ap, ◌∙◌, subst, inl, inr, arith}
+use Rattle.std.proofs.Common.{◌≡◌, ◌≤◌, ◌<◌, ◌-◌, ◌*◌, ◌^◌, ℕ, List, Option, None, get_or, map, replicate, refl, sym, ap, ◌∙◌, subst, inl, inr, arith}
 use Rattle.std.proofs.lemmas.Bool.{cases_lt}
 use Rattle.std.proofs.Math.ListN.{get_or-map}
 use Rattle.std.proofs.lemmas.List.{get_or-replicate, get_or_past, length-map, length-replicate}
-use Rattle.ff_base.specs.Geometry.{IsWithinLimits, capacity_of}
-use Rattle.ff_base.specs.Page.{blank_page}
+use Rattle.ff_base.specs.Geometry.{IsWithinLimits}
 use Rattle.ff_base.specs.declared.geometry.Geometry.{Geometry}
 use Rattle.ff_cache.specs.Slots.{empty_slot, held, holds}
 use Rattle.ff_cache.specs.declared.slot.Slot.{Slot}
 use Rattle.ff_cache.proofs.Held.{held_none}
-use Rattle.ff_calls.specs.Told.{IsTold}
 use Rattle.ff_calls.proofs.ToldFresh.{IsFreshDevice, told-fresh, zero-line_or_blank}
 use Rattle.ff_evict.specs.Picker.{PickerView}
 use Rattle.ff_flash.specs.Cells.{Cell}
 use Rattle.ff_flash.specs.FlashState.{FlashState}
 use Rattle.ff_frames.specs.Frame.{free_frame}
-use Rattle.ff_lines.specs.BlankLine.{line_or_blank}
 use Rattle.ff_map.specs.declared.places.Mapping.{Mapping}
 use Rattle.ff_model.specs.Image.{empty_content}
 use Rattle.ff_model.specs.Legal.{opening_of}
 use Rattle.ff_policy.specs.Tuner.{TunerView}
 use Rattle.ff_space.specs.Blocks.{erased_block}
 use Rattle.ff_device.specs.Device.{lines_in, parts_of}
-use Rattle.ff_device.specs.Parts.{Parts, bytes_over, cached, is_pinned, is_written, page_below, slot_passes}
-use Rattle.ff_device.specs.StoreState.{bytes_at, is_stored, stored_bytes, stored_in}
+use Rattle.ff_device.specs.Parts.{Parts, cached, slot_passes}
+use Rattle.ff_device.specs.StoreState.{bytes_at, stored_in}
 use Rattle.ff_core.specs.Core.{CoreView}
 use Rattle.ff_core.specs.CoreSound.{IsCoreSound, IsCounted, IsSized, IsTimed}
 use Rattle.ff_core.specs.Fresh.{IsFreshFlash, fresh_core, fresh_device}

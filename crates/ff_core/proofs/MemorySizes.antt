@@ -1,15 +1,14 @@
 -- Moves of pages and calls keep the sizes of the memory and its device.
-use Rattle.std.proofs.Common.{◌≡◌, ◌==◌, ℕ, Bool, true, false, List, length, Option, Some, None, refl, ap, ◌∙◌, length-set}
+use Rattle.std.proofs.Common.{◌≡◌, ℕ, Bool, true, false, List, length, Option, Some, None, refl, ap, ◌∙◌, length-set}
 use Rattle.ff_calls.specs.Accesses.{Accesses}
-use Rattle.ff_frames.specs.Frame.{cleaned_frame, filled_frame, given_frame, referred_frame, taken_frame}
-use Rattle.ff_frames.specs.Frames.{frame_at, with_frame}
+use Rattle.ff_frames.specs.Frame.{cleaned_frame, filled_frame, given_frame}
+use Rattle.ff_frames.specs.Frames.{frame_at}
 use Rattle.ff_frames.specs.declared.frame.Frame.{Frame}
-use Rattle.ff_lines.specs.DeviceState.{DeviceState, IsDrained, SameSizes}
+use Rattle.ff_lines.specs.DeviceState.{DeviceState, SameSizes}
 use Rattle.ff_lines.specs.LineMask.{has_line}
 use Rattle.ff_memory.specs.Advances.{Advances, AdvancesBy, FinishesOrLifts, LandsBy, LiftsFrom, finished_by}
 use Rattle.ff_memory.specs.Begins.{IsPromoted, IsRetreated, turned_by}
 use Rattle.ff_memory.specs.Loads.{IsLoadBy}
-use Rattle.ff_memory.specs.Located.{IsLocated}
 use Rattle.ff_memory.specs.Marking.{IsMarkBy}
 use Rattle.ff_memory.specs.Memory.{MemoryView, entry_at, frame_set, slot_set}
 use Rattle.ff_memory.specs.Places.{is_home, line_in_page, page_of, place_in_line, serving_frame, storing_frame}
@@ -20,7 +19,6 @@ use Rattle.ff_memory.specs.declared.access.What.{What}
 use Rattle.ff_memory.specs.declared.access.What.TheVariants.{Finished, Landed, Dropped, Lifted, Started, Worked, Drained, Sealed, Collected}
 use Rattle.ff_model.specs.declared.op.Op.{Op}
 use Rattle.ff_model.specs.declared.op.Op.TheVariants.{Load, Store, Verify, Mark, Release}
-use Rattle.ff_plb.specs.Plb.{slot_at, with_slot}
 use Rattle.ff_plb.specs.Slot.{after_landing, after_store}
 use Rattle.ff_plb.specs.declared.slot.Flight.{Flight}
 use Rattle.ff_plb.specs.declared.slot.Slot.{Slot}

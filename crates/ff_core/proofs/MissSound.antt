@@ -1,13 +1,13 @@
 -- A core stays sound where a call misses a page and a step is made for it.
-use Rattle.std.proofs.Common.{◌≡◌, ◌≤◌, ◌<◌, ◌+◌, ℕ, true, Option, None, Some, refl, sym, ap, ◌∙◌, subst, arith}
+use Rattle.std.proofs.Common.{◌≡◌, ◌<◌, ℕ, true, refl, sym, ap, ◌∙◌, subst, arith}
 use Rattle.ff_base.specs.Count.{last_event}
 use Rattle.ff_base.specs.declared.numbers.Caller.{Caller}
 use Rattle.ff_base.specs.declared.numbers.PageNo.{PageNo}
 use Rattle.ff_calls.specs.Told.{IsTold}
 use Rattle.ff_calls.proofs.ToldAnswered.{told-fault}
-use Rattle.ff_calls.proofs.ToldMissed.{HasMissed, told-missed}
-use Rattle.ff_lines.specs.DeviceState.{DeviceState, IsDevice}
-use Rattle.ff_memory.specs.Memory.{IsMemorySound, MemoryView}
+use Rattle.ff_calls.proofs.ToldMissed.{told-missed}
+use Rattle.ff_lines.specs.DeviceState.{IsDevice}
+use Rattle.ff_memory.specs.Memory.{IsMemorySound}
 use Rattle.ff_memory.specs.declared.access.Access.TheVariants.{Miss as AccessMiss}
 use Rattle.ff_model.specs.Legal.{due_reply, is_served, may_fault}
 use Rattle.ff_model.specs.Spans.{is_in_range}
@@ -31,10 +31,10 @@ use Rattle.ff_core.specs.declared.action.Progress.TheVariants.{Did, Failed, Off}
 use Rattle.ff_core.specs.declared.tally.Tally.{Tally}
 use Rattle.ff_core.specs.declared.turn.Turn.{Turn}
 use Rattle.ff_core.proofs.ActionsTold.{performs-tells}
-use Rattle.ff_core.proofs.Recounting.{recounted-cut, recounted-fault, recounted-stepped, recounted-still}
-use Rattle.ff_core.proofs.Running.{Runs, performs-runs}
+use Rattle.ff_core.proofs.Recounting.{recounted-fault, recounted-stepped, recounted-still}
+use Rattle.ff_core.proofs.Running.{Runs, fails-cut, fails-none, performs-runs, runs-same}
 use Rattle.ff_core.proofs.Sizes.{access-parts, performs-parts}
-use Rattle.ff_core.proofs.SoundOver.{IsLeft, counted-alike, sound-over}
+use Rattle.ff_core.proofs.SoundOver.{counted-alike, sound-over}
 use Rattle.ff_core.proofs.Tallied.{CountsAlike, after-moves, after-promoted, performs-alike}
 use Rattle.ff_core.proofs.Timing.{later-cut, later-fault, later-looked, later-stepped}
 
@@ -123,7 +123,7 @@ step-sound {T} {E} Off action page core caller number op turn h new missing aske
       turns = refl;
       told = told;
       later = later-cut core h missing.sound.timed runs.opened runs.one_more runs.stops.0;
-      counts = recounted-cut core h alike runs;
+      counts = recounted-still core h alike (fails-cut core.hierarchy.device.store h.device.store runs);
     }))
 
 -- one step was made for a call that missed a page
@@ -161,7 +161,9 @@ miss-sound {T} {E} old caller number op turn new sound memory device on range go
       told = told;
       later = later-looked old looked timed same;
       counts = recounted-still old looked
-          (rw (ap (λ (x : HierarchyView T E). x.policy) is.access.rest) (counted-alike old sound)) same;
+          (rw (ap (λ (x : HierarchyView T E). x.policy) is.access.rest) (counted-alike old sound))
+          (fails-none old.hierarchy.device.store looked.device.store
+          (runs-same old.hierarchy.device.store looked.device.store same));
     }) in
     made-sound is.page between caller number op turn new
     (record {

@@ -1,26 +1,23 @@
 -- What each event adds to what is counted.
-use Rattle.std.proofs.Common.{◌≡◌, ◌≤◌, ◌<◌, ◌+◌, ℕ, Bool, true, false, cond, refl, sym, ap, ◌∙◌, arith, count_by}
-use Rattle.std.specs.Prelude.{IsSome}
+use Rattle.std.proofs.Common.{◌≡◌, ◌≤◌, ◌<◌, ◌+◌, ℕ, Bool, true, false, cond, refl, arith}
 use Rattle.ff_base.specs.Count.{last_event}
 use Rattle.ff_base.specs.declared.numbers.Caller.{Caller}
-use Rattle.ff_flash.specs.declared.flash.FlashStop.TheVariants.{Failed as FailedStop, Off as OffStop}
-use Rattle.ff_gc.specs.declared.counts.Counts.{Counts as FlashCounts}
+use Rattle.ff_flash.specs.declared.flash.FlashStop.TheVariants.{Failed as FailedStop}
 use Rattle.ff_model.specs.declared.counts.Kind.{Kind}
 use Rattle.ff_model.specs.declared.history.Entry.{Entry}
 use Rattle.ff_model.specs.declared.op.Op.{Op}
 use Rattle.ff_model.specs.declared.op.Op.TheVariants.{Load, Store, Verify, Mark, Release}
 use Rattle.ff_model.specs.declared.op.Reply.{Reply}
 use Rattle.ff_model.specs.declared.op.Reply.TheVariants.{Fault}
-use Rattle.ff_store.specs.PageStore.{PageStoreView}
-use Rattle.std.specs.Prelude.{Option, None, Some}
+use Rattle.std.specs.Prelude.{None, Some}
 use Rattle.ff_core.specs.Backs.{turned_now, with_turn}
 use Rattle.ff_core.specs.Core.{CoreView, entry_now, next_number, with_entry}
 use Rattle.ff_core.specs.CoreSound.{has_failed, has_fault, is_failed, is_fault, is_promotion, is_promotion_by, is_served_access, is_served_op}
-use Rattle.ff_core.specs.Hierarchy.{HierarchyView, flash_of}
+use Rattle.ff_core.specs.Hierarchy.{HierarchyView}
 use Rattle.ff_core.specs.declared.log.Back.{Back}
 use Rattle.ff_core.specs.declared.tally.Tally.{Tally}
 use Rattle.ff_core.proofs.Counting.{IsRecounted, count-more}
-use Rattle.ff_core.proofs.Running.{RunsOnce, runs-same}
+use Rattle.ff_core.proofs.Running.{FailsBy, RunsOnce, fails-none, fails-once, runs-same}
 use Rattle.ff_core.proofs.Tallied.{CountsAlike, CountsMove, moves_of}
 
 -- the tally after a call was answered
@@ -40,7 +37,6 @@ recounted-answered core caller number op reply faults passes events tally h serv
     let served = count-more is_served_access core.history.entries entry passes serves in
     let told = count-more has_fault core.history.entries entry false well in
     let runs = runs-same core.hierarchy.device.store h.device.store store in
-    let same = runs.stops in
     let one = counts.served in
     let two = counts.promoted in
     let three = counts.moves in
@@ -51,10 +47,7 @@ recounted-answered core caller number op reply faults passes events tally h serv
       moves = omega arith;
       failures = 0;
       told = omega arith;
-      faults = omega arith;
-      plan = runs.plan;
-      planned = λ some. omega arith;
-      since = runs.since;
+      fails = fails-none core.hierarchy.device.store h.device.store runs;
     }
 
 fault-unserved : (op : Op) → is_served_op op Fault ≡ false
@@ -73,7 +66,6 @@ recounted-fault core caller number op faults events h alike rose runs =
     let entry : Entry = entry_now core caller number op Fault faults in
     let served = count-more is_served_access core.history.entries entry false (fault-unserved op) in
     let told = count-more has_fault core.history.entries entry true refl in
-    let failed = runs.stops in
     record {
       served = omega arith;
       promotions = refl;
@@ -81,10 +73,7 @@ recounted-fault core caller number op faults events h alike rose runs =
       moves = omega arith;
       failures = 1;
       told = omega arith;
-      faults = omega arith;
-      plan = runs.plan;
-      planned = λ some. failed;
-      since = runs.since;
+      fails = fails-once core.hierarchy.device.store h.device.store runs;
     }
 
 -- a step was made for a call, which is no promotion
@@ -93,7 +82,6 @@ pub recounted-stepped : {T E : Type 0} (core : CoreView T E) (tally : Tally) (h 
     → RunsOnce core.hierarchy.device.store None h.device.store
     → IsRecounted core core.history (next_number core.events) core.log tally h
 recounted-stepped core tally h going counts promoted alike runs =
-    let same = runs.stops in
     let device = counts.device in
     let host = counts.host in
     let moves = counts.moves in
@@ -104,49 +92,21 @@ recounted-stepped core tally h going counts promoted alike runs =
       moves = omega arith;
       failures = 0;
       told = omega arith;
-      faults = omega arith;
-      plan = runs.plan;
-      planned = λ some. omega arith;
-      since = runs.since;
-    }
-
--- an operation was cut
-pub recounted-cut : {T E : Type 0} (core : CoreView T E) (h : HierarchyView T E) → CountsAlike h.policy core.tally
-    → RunsOnce core.hierarchy.device.store (Some OffStop) h.device.store
-    → IsRecounted core core.history core.events core.log core.tally h
-recounted-cut core h alike runs =
-    let no_fall = runs.no_fall in
-    record {
-      served = refl;
-      promotions = refl;
-      alike = alike;
-      moves = omega arith;
-      failures = 0;
-      told = omega arith;
-      faults = omega arith;
-      plan = runs.plan;
-      planned = λ some. let same = runs.stops.1 some in omega arith;
-      since = runs.since;
+      fails = fails-none core.hierarchy.device.store h.device.store runs;
     }
 
 -- nothing was done that is counted
 pub recounted-still : {T E : Type 0} (core : CoreView T E) (h : HierarchyView T E) → CountsAlike h.policy core.tally
-    → h.device.store ≡ core.hierarchy.device.store → IsRecounted core core.history core.events core.log core.tally h
-recounted-still core h alike store =
-    let runs = runs-same core.hierarchy.device.store h.device.store store in
-    let same = runs.stops in
-    record {
-      served = refl;
-      promotions = refl;
-      alike = alike;
-      moves = omega arith;
-      failures = 0;
-      told = omega arith;
-      faults = omega arith;
-      plan = runs.plan;
-      planned = λ some. omega arith;
-      since = runs.since;
-    }
+    → FailsBy 0 core.hierarchy.device.store h.device.store → IsRecounted core core.history core.events core.log core.tally h
+recounted-still core h alike fails = record {
+  served = refl;
+  promotions = refl;
+  alike = alike;
+  moves = omega arith;
+  failures = 0;
+  told = omega arith;
+  fails = fails;
+}
 
 -- a turn was made that didn't fail
 pub recounted-turned : {T E : Type 0} (core : CoreView T E) (kind : Kind) (back : Back) (events : ℕ) (tally : Tally)
@@ -159,7 +119,6 @@ recounted-turned core kind back events tally h device host moves promoted well a
     let turn = turned_now core kind back in
     let promotions = count-more is_promotion core.log.turns turn (is_promotion_by kind back) refl in
     let told = count-more has_failed core.log.turns turn false well in
-    let same = runs.stops in
     record {
       served = omega arith;
       promotions = omega arith;
@@ -167,10 +126,7 @@ recounted-turned core kind back events tally h device host moves promoted well a
       moves = moves;
       failures = 0;
       told = omega arith;
-      faults = omega arith;
-      plan = runs.plan;
-      planned = λ some. omega arith;
-      since = runs.since;
+      fails = fails-none core.hierarchy.device.store h.device.store runs;
     }
 
 -- an operation failed in a turn
@@ -182,7 +138,6 @@ recounted-failed core kind back events h rose none failed alike runs =
     let turn = turned_now core kind back in
     let promotions = count-more is_promotion core.log.turns turn false none in
     let told = count-more has_failed core.log.turns turn true failed in
-    let more = runs.stops in
     record {
       served = refl;
       promotions = omega arith;
@@ -190,8 +145,5 @@ recounted-failed core kind back events h rose none failed alike runs =
       moves = omega arith;
       failures = 1;
       told = omega arith;
-      faults = omega arith;
-      plan = runs.plan;
-      planned = λ some. more;
-      since = runs.since;
+      fails = fails-once core.hierarchy.device.store h.device.store runs;
     }

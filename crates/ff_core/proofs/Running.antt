@@ -1,5 +1,5 @@
 -- What an action makes of the flash under the hierarchy: at most one operation.
-use Rattle.std.proofs.Common.{◌≡◌, ◌≤◌, ◌+◌, ℕ, Bool, true, false, Option, Some, None, refl, sym, ap, ◌∙◌, arith}
+use Rattle.std.proofs.Common.{◌≡◌, ◌≤◌, ◌+◌, ℕ, Bool, true, false, Option, Some, None, refl, ap, ◌∙◌, arith}
 use Rattle.std.specs.Prelude.{IsSome}
 use Rattle.std.specs.Option.{is_some}
 use Rattle.ff_flash.specs.FlashState.{FlashState, Operates}
@@ -17,7 +17,7 @@ use Rattle.ff_device.specs.StoreSteps.{CallsOnce}
 use Rattle.ff_device.specs.WorkRows.{stop_of_work}
 use Rattle.ff_core.specs.CoreSound.{IsSince}
 use Rattle.ff_core.specs.Hierarchy.{HierarchyView, flash_of}
-use Rattle.ff_core.specs.Performs.{HasCollected, HasDrained, HasEvicted, HasPromoted, HasRetreated, IsAdvanced, IsMoved, IsTurnedBack, IsWorkedFor, Performs, collect_progress, progress_of, steps, yields}
+use Rattle.ff_core.specs.Performs.{HasCollected, IsAdvanced, IsMoved, IsWorkedFor, Performs, collect_progress, progress_of, steps, yields}
 use Rattle.ff_core.specs.declared.action.Action.{Action}
 use Rattle.ff_core.specs.declared.action.Action.TheVariants.{Advance, TurnBack, Work as WorkFor, Promote, Retreat, Evict, Collect, Drain}
 use Rattle.ff_core.specs.declared.action.Progress.{Progress}
@@ -58,6 +58,33 @@ runs-still s = record {
 
 pub runs-same : (old new : PageStoreView) → new ≡ old → RunsOnce old None new
 runs-same old new same = rw same (runs-still old)
+
+-- so many failures more are counted, exactly so many where the plan is told, and no kind of operation is counted less
+pub record FailsBy (failures : ℕ) (old new : PageStoreView) : Type 0 where
+  pub faults : old.world.flash.faults + failures ≤ new.world.flash.faults
+  pub plan : new.world.flash.plan ≡ old.world.flash.plan
+  pub planned : IsSome old.world.flash.plan → new.world.flash.faults ≡ old.world.flash.faults + failures
+  pub since : IsSince old.world.counts new.world.counts
+
+pub fails-none : (old new : PageStoreView) → RunsOnce old None new → FailsBy 0 old new
+fails-none old new runs =
+    let same = runs.stops in
+    record { faults = omega arith; plan = runs.plan; planned = λ some. omega arith; since = runs.since }
+
+pub fails-once : (old new : PageStoreView) → RunsOnce old (Some FailedStop) new → FailsBy 1 old new
+fails-once old new runs =
+    let more = runs.stops in
+    record { faults = omega arith; plan = runs.plan; planned = λ some. more; since = runs.since }
+
+pub fails-cut : (old new : PageStoreView) → RunsOnce old (Some OffStop) new → FailsBy 0 old new
+fails-cut old new runs =
+    let no_fall = runs.no_fall in
+    record {
+      faults = omega arith;
+      plan = runs.plan;
+      planned = λ some. let same = runs.stops.1 some in omega arith;
+      since = runs.since;
+    }
 
 since-begun : (kind : OperationKind) (counts : FlashCounts) → IsSince counts (begun kind counts)
 since-begun Read counts = record { reads = omega arith; programs = omega arith; seals = omega arith; erases = omega arith }

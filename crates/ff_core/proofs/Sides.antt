@@ -1,5 +1,5 @@
 -- A served call has a side exactly where it is a load or a store that was served, and no served reply tells a fault.
-use Rattle.std.proofs.Common.{◌≡◌, ◌≤◌, ◌+◌, ◌==◌, ℕ, Bool, true, false, cond, List, Option, Some, None, length, refl, sym, ap, ◌∙◌, arith}
+use Rattle.std.proofs.Common.{◌≡◌, ◌+◌, ℕ, Bool, true, false, cond, List, Option, Some, None, refl, arith}
 use Rattle.ff_calls.specs.Accesses.{Accesses}
 use Rattle.ff_lines.specs.DeviceState.{DeviceState}
 use Rattle.ff_memory.specs.Loads.{IsLoadBy, span_of}
@@ -7,8 +7,7 @@ use Rattle.ff_memory.specs.Marking.{IsMarkBy}
 use Rattle.ff_memory.specs.Memory.{MemoryView}
 use Rattle.ff_memory.specs.Places.{is_home, line_in_page, page_of, place_in_line, serving_frame, storing_frame}
 use Rattle.ff_memory.specs.Stores.{IsStoreBy, is_store_refused}
-use Rattle.ff_memory.specs.declared.access.Access.{Access}
-use Rattle.ff_memory.specs.declared.access.Access.TheVariants.{Served, Miss}
+use Rattle.ff_memory.specs.declared.access.Access.TheVariants.{Served}
 use Rattle.ff_memory.specs.declared.access.Side.{Side}
 use Rattle.ff_memory.specs.declared.access.Side.TheVariants.{Device, Host, Neither}
 use Rattle.ff_model.specs.declared.op.Op.{Op}

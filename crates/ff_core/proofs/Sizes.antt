@@ -1,12 +1,10 @@
 -- Each event keeps the sizes of a hierarchy's parts.
-use Rattle.std.proofs.Common.{◌≡◌, ◌+◌, ◌/◌, ◌%◌, ◌<◌, ◌≤◌, ◌==◌, ℕ, Bool, true, false, List, length, Option, Some, None, refl, sym, ap, ◌∙◌, arith, length-set}
+use Rattle.std.proofs.Common.{◌≡◌, ◌+◌, ◌/◌, ◌%◌, ◌<◌, ◌==◌, ℕ, Bool, true, false, List, length, ap, ◌∙◌, arith, length-set}
 use Rattle.std.proofs.Math.Nat.{mod-lt}
 use Rattle.std.proofs.lemmas.List.{length-map}
-use Rattle.ff_evict.specs.Evictor.{EvictorView, IsHandInside}
+use Rattle.ff_evict.specs.Evictor.{IsHandInside}
 use Rattle.ff_frames.specs.declared.frame.Frame.{Frame}
-use Rattle.ff_lines.specs.DeviceState.{DeviceState, SameSizes}
-use Rattle.ff_memory.specs.Begins.{turned_at}
-use Rattle.ff_memory.specs.Memory.{MemoryView}
+use Rattle.ff_lines.specs.DeviceState.{SameSizes}
 use Rattle.ff_memory.specs.declared.access.Access.{Access}
 use Rattle.ff_memory.specs.declared.access.Side.{Side}
 use Rattle.ff_memory.specs.declared.access.Side.TheVariants.{Device, Host, Neither}
@@ -14,11 +12,9 @@ use Rattle.ff_model.specs.declared.op.Op.{Op}
 use Rattle.ff_plb.specs.Plb.{slot_at}
 use Rattle.ff_policy.specs.Policy.{PolicyView, StepsWhere, counted, counter_of, raised_count}
 use Rattle.ff_policy.specs.declared.policy.TheConstants.{STEP_ACCESSES}
-use Rattle.ff_device.specs.Device.{DeviceView, lines_in}
-use Rattle.ff_core.specs.CoreSound.{IsSized}
-use Rattle.ff_core.specs.Core.{CoreView}
+use Rattle.ff_device.specs.Device.{lines_in}
 use Rattle.ff_core.specs.Hierarchy.{HierarchyView, lines_under}
-use Rattle.ff_core.specs.Performs.{HasCollected, HasDrained, HasEvicted, HasPromoted, HasRetreated, IsAdvanced, IsMoved, IsTurnedBack, IsWorkedFor, Performs, steps, yields}
+use Rattle.ff_core.specs.Performs.{HasEvicted, HasPromoted, IsAdvanced, IsTurnedBack, IsWorkedFor, Performs, steps, yields}
 use Rattle.ff_core.specs.Serving.{IsAccess, PolicyAfter}
 use Rattle.ff_core.specs.declared.action.Action.{Action}
 use Rattle.ff_core.specs.declared.action.Action.TheVariants.{Advance, TurnBack, Work, Promote, Retreat, Evict, Collect, Drain}
@@ -158,20 +154,3 @@ counted-counters Device page answers old new is =
     ∙ length-set old.counters page (raised_count (counter_of old page))
 counted-counters {T} Host page answers old new is = ap (λ (p : PolicyView T). length p.counters) is
 counted-counters {T} Neither page answers old new is = ap (λ (p : PolicyView T). length p.counters) is
-
--- the parts of a core have the sizes of the geometry still
-pub sized-kept : {T E : Type 0} (core : CoreView T E) (h : HierarchyView T E) → IsSized core → KeepsParts core.hierarchy h
-    → IsSized (record core { hierarchy = h })
-sized-kept core h sized kept = record {
-  limits = sized.limits;
-  pages = sized.pages;
-  capacity = sized.capacity;
-  window = kept.sizes.lines.most_posts ∙ sized.window;
-  steps = kept.sizes.lines.most_steps ∙ sized.steps;
-  counters = kept.counters ∙ sized.counters;
-  frames = kept.sizes.frames ∙ sized.frames;
-  slots = kept.sizes.slots ∙ sized.slots;
-  hand = kept.hand sized.hand;
-  few_calls = sized.few_calls;
-  few_turns = sized.few_turns;
-}

@@ -1,5 +1,5 @@
 -- A core is sound over what an event left of its parts.
-use Rattle.std.proofs.Common.{◌≡◌, ◌≤◌, ◌<◌, ◌+◌, ◌^◌, ◌∙◌, ℕ, true, refl, arith}
+use Rattle.std.proofs.Common.{◌≡◌, ◌∙◌, ℕ, true, refl, arith}
 use Rattle.ff_calls.specs.Told.{IsTold}
 use Rattle.ff_model.specs.History.{Entries}
 use Rattle.ff_core.specs.Core.{CoreView}
@@ -9,7 +9,7 @@ use Rattle.ff_core.specs.Log.{LogView}
 use Rattle.ff_core.specs.declared.tally.Tally.{Tally}
 use Rattle.ff_core.proofs.Counting.{IsRecounted, counted-over}
 use Rattle.ff_core.proofs.Sizes.{KeepsParts}
-use Rattle.ff_core.proofs.MemorySizes.{KeepsSizes, sizes-same}
+use Rattle.ff_core.proofs.MemorySizes.{sizes-same}
 use Rattle.ff_core.proofs.Tallied.{CountsAlike}
 use Rattle.ff_core.proofs.Timing.{IsLater, timed-over}
 

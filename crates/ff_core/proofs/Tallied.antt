@@ -16,7 +16,7 @@ use Rattle.ff_plb.specs.declared.slot.Flight.{Flight}
 use Rattle.ff_plb.specs.declared.slot.Slot.{Slot}
 use Rattle.ff_plb.specs.declared.slot.Way.{Way}
 use Rattle.ff_plb.specs.declared.slot.Way.TheVariants.{Coming, Leaving}
-use Rattle.ff_policy.specs.Policy.{PolicyView, StepsWhere, counted, promoted}
+use Rattle.ff_policy.specs.Policy.{PolicyView, StepsWhere, counted}
 use Rattle.ff_policy.specs.declared.policy.TheConstants.{STEP_ACCESSES}
 use Rattle.ff_core.specs.Backs.{back_of}
 use Rattle.ff_core.specs.Choices.{IsChoice}

@@ -1,22 +1,18 @@
 -- The event numbers rise with each event, and each makes at most one operation.
-use Rattle.std.proofs.Common.{◌≡◌, ◌≤◌, ◌<◌, ◌+◌, ◌-◌, ◌∷◌, ◌++◌, [], ℕ, Bool, true, false, min, refl, sym, ap, ◌∙◌, arith}
+use Rattle.std.proofs.Common.{◌≡◌, ◌≤◌, ◌<◌, ◌+◌, ℕ, true, false, ap, arith}
 use Rattle.ff_base.specs.Count.{last_event}
 use Rattle.ff_base.specs.declared.numbers.Caller.{Caller}
-use Rattle.ff_gc.specs.Counts.{total_of}
 use Rattle.ff_model.specs.History.{Entries}
 use Rattle.ff_model.specs.Legal.{next_event}
-use Rattle.ff_model.specs.declared.history.Entry.{Entry}
 use Rattle.ff_model.specs.declared.op.Op.{Op}
 use Rattle.ff_model.specs.declared.op.Reply.{Reply}
 use Rattle.ff_model.proofs.Appended.{next_event-append}
 use Rattle.ff_store.specs.PageStore.{PageStoreView}
-use Rattle.ff_core.specs.Core.{CoreView, entry_now, from_operations, next_number, with_entry}
-use Rattle.ff_core.specs.CoreSound.{IsTimed, events_made}
+use Rattle.ff_core.specs.Core.{CoreView, entry_now, next_number, with_entry}
+use Rattle.ff_core.specs.CoreSound.{IsTimed}
 use Rattle.ff_core.specs.Hierarchy.{HierarchyView, flash_of}
 use Rattle.ff_core.specs.Log.{LogView}
-use Rattle.ff_core.specs.declared.action.Progress.{Progress}
 use Rattle.ff_core.specs.declared.tally.Tally.{Tally}
-use Rattle.ff_core.proofs.Running.{RunsOnce, Stops}
 
 -- the event number behind an event, its history and its operations
 pub record IsLater {T E : Type 0} (core : CoreView T E) (history : Entries) (events : ℕ) (h : HierarchyView T E) : Type 0 where

@@ -1,5 +1,5 @@
 -- A core stays sound after one event of a call.
-use Rattle.std.proofs.Common.{◌≡◌, ◌≤◌, ◌<◌, ◌+◌, ◌==◌, ℕ, Bool, true, false, not, Option, None, Some, if◌then◌else◌, refl, sym, ap, ◌∙◌, subst, arith}
+use Rattle.std.proofs.Common.{◌≡◌, ◌<◌, ◌==◌, ℕ, Bool, true, false, not, None, Some, if◌then◌else◌, refl, sym, subst, arith}
 use Rattle.std.proofs.lemmas.Bool.{eqb-false, eqb-true}
 use Rattle.ff_base.specs.Count.{last_event}
 use Rattle.ff_base.specs.declared.numbers.Caller.{Caller}
@@ -24,10 +24,10 @@ use Rattle.ff_core.specs.Tally.{served_by}
 use Rattle.ff_core.specs.Turns.{IsAttempt, IsServed, IsTurn, IsTurnBy, answered, misses, serves}
 use Rattle.ff_core.specs.declared.turn.Turn.{Turn}
 use Rattle.ff_core.proofs.MissSound.{miss-sound}
-use Rattle.ff_core.proofs.Recounting.{CountsCall, recounted-answered}
+use Rattle.ff_core.proofs.Recounting.{recounted-answered}
 use Rattle.ff_core.proofs.Sides.{access-sided, is_side, served-side}
 use Rattle.ff_core.proofs.Sizes.{KeepsParts, access-parts, counted-counters}
-use Rattle.ff_core.proofs.SoundOver.{IsLeft, counted-alike, sound-over, still-parts}
+use Rattle.ff_core.proofs.SoundOver.{counted-alike, sound-over, still-parts}
 use Rattle.ff_core.proofs.Tallied.{served-alike}
 use Rattle.ff_core.proofs.Timing.{later-answered}
 

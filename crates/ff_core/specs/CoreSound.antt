@@ -1,22 +1,20 @@
 -- What a core keeps.
-use Rattle.std.specs.Prelude.{ℕ, ◌+◌, ◌-◌, ◌*◌, ◌<◌, ◌≤◌, ◌≡◌, ◌^◌, ◌&&◌, Bool, true, false, length, count_by, IsSome}
+use Rattle.std.specs.Prelude.{ℕ, ◌+◌, ◌-◌, ◌*◌, ◌<◌, ◌≤◌, ◌≡◌, ◌^◌, Bool, true, false, length, count_by, IsSome}
 use Rattle.ff_base.specs.Count.{last_event}
 use Rattle.ff_base.specs.Geometry.{IsWithinLimits, capacity_of}
 use Rattle.ff_calls.specs.Told.{IsTold}
 use Rattle.ff_evict.specs.Evictor.{IsHandInside}
-use Rattle.ff_flash.specs.FlashState.{FlashState}
 use Rattle.ff_gc.specs.declared.counts.Counts.{Counts}
 use Rattle.ff_memory.specs.declared.access.What.{What}
 use Rattle.ff_memory.specs.declared.access.What.TheVariants.{Started}
-use Rattle.ff_model.specs.Flat.{is_done}
 use Rattle.ff_model.specs.Legal.{next_event}
 use Rattle.ff_model.specs.declared.counts.Kind.{Kind}
 use Rattle.ff_model.specs.declared.counts.Kind.TheVariants.{Promote}
 use Rattle.ff_model.specs.declared.history.Entry.{Entry}
 use Rattle.ff_model.specs.declared.op.Op.{Op}
-use Rattle.ff_model.specs.declared.op.Op.TheVariants.{Load, Store, Verify, Mark, Release}
+use Rattle.ff_model.specs.declared.op.Op.TheVariants.{Load, Store}
 use Rattle.ff_model.specs.declared.op.Reply.{Reply}
-use Rattle.ff_model.specs.declared.op.Reply.TheVariants.{Bytes, Done, Range, Spent, Full, Fault}
+use Rattle.ff_model.specs.declared.op.Reply.TheVariants.{Bytes, Done, Fault}
 use Rattle.ff_core.specs.Core.{CoreView, from_operations}
 use Rattle.ff_core.specs.Hierarchy.{flash_of, lines_under}
 use Rattle.ff_core.specs.declared.log.Back.{Back}
