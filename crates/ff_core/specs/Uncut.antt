@@ -1,0 +1,10 @@
+-- A flash whose power no operation cuts.
+use Rattle.std.specs.Prelude.{◌≡◌, List, [], Some}
+use Rattle.ff_flash.specs.FlashState.{FlashState}
+use Rattle.ff_flash.specs.Plans.{Planned}
+
+-- the flash tells its plan, which has no cut
+pub record IsUncut (flash : FlashState) : Type 0 where
+  pub plan : Planned
+  pub told : flash.plan ≡ Some plan
+  pub none : plan.cuts ≡ []
