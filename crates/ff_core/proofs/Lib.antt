@@ -4,6 +4,7 @@ pub mod Attempts
 pub mod BackSound
 pub mod Beginning
 pub mod Counting
+pub mod DriveEvents
 pub mod Ending
 pub mod EntrySteps
 pub mod Evicting
@@ -15,6 +16,8 @@ pub mod MarkFalls
 pub mod Marked
 pub mod Mays
 pub mod MemorySizes
+pub mod MissFalls
+pub mod MissRuns
 pub mod MissSound
 pub mod MissedCalls
 pub mod Recounting

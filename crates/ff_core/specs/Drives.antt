@@ -1,14 +1,17 @@
 -- What the events of one call, from its first to the one that answers it, make of a core.
-use Rattle.std.specs.Prelude.{ℕ, ◌+◌, ◌*◌, ◌≤◌, ◌≡◌, true, false}
+use Rattle.std.specs.Prelude.{ℕ, ◌+◌, ◌*◌, ◌<◌, ◌≤◌, ◌≡◌, true, false}
 use Rattle.ff_base.specs.declared.geometry.Geometry.{Geometry}
 use Rattle.ff_base.specs.declared.numbers.Caller.{Caller}
 use Rattle.ff_model.specs.declared.op.Op.{Op}
 use Rattle.ff_model.specs.declared.op.Op.TheVariants.{Load, Store, Verify, Mark, Release}
 use Rattle.ff_store.specs.Calls.{SameStore}
 use Rattle.ff_core.specs.Core.{CoreView, with_entry}
+use Rattle.ff_core.specs.EventsLeft.{events_left}
 use Rattle.ff_core.specs.Hierarchy.{flash_of}
 use Rattle.ff_core.specs.declared.turn.Driven.{Driven}
 use Rattle.ff_core.specs.declared.turn.Driven.TheVariants.{Served, Off}
+use Rattle.ff_core.specs.declared.turn.Turn.{Turn}
+use Rattle.ff_core.specs.declared.turn.Turn.TheVariants.{Served as TurnServed, Miss, Off as TurnOff}
 
 -- how many events a call takes at most
 abbrev pub most_events : Geometry → Op → ℕ
@@ -45,6 +48,26 @@ pub data IsAnswered {T E : Type 0} (old : CoreView T E) (caller : Caller) (numbe
       → IsAnswered old caller number op driven new
   cut : driven ≡ Off → new.history ≡ old.history → (flash_of new.hierarchy).on ≡ false
       → IsAnswered old caller number op driven new
+
+-- what an event of a call comes to: it answers the call, or it leaves fewer events
+abbrev pub AnswersOrLeaves : {T E : Type 0} → Turn → CoreView T E → Caller → ℕ → Op → CoreView T E
+    → Type 0
+AnswersOrLeaves (TurnServed reply) old caller number op new =
+    IsAnswered old caller number op (Served reply) new
+AnswersOrLeaves (Miss page) old caller number op new =
+    (new.history ≡ old.history)
+    × (events_left op new.hierarchy < events_left op old.hierarchy)
+AnswersOrLeaves TurnOff old caller number op new = IsAnswered old caller number op Off new
+
+-- one event of a call
+pub record IsEvent {T E : Type 0} (old : CoreView T E) (caller : Caller) (number : ℕ) (op : Op)
+    (turn : Turn) (new : CoreView T E) : Type 0 where
+  pub answer : AnswersOrLeaves turn old caller number op new
+  pub log : new.log ≡ old.log
+  pub same : SameSession old new
+  pub events : new.events ≤ old.events + 1
+  pub no_fall : (flash_of old.hierarchy).operations ≤ (flash_of new.hierarchy).operations
+  pub one_more : (flash_of new.hierarchy).operations ≤ (flash_of old.hierarchy).operations + 1
 
 pub record IsDriven {T E : Type 0} (old : CoreView T E) (caller : Caller) (number : ℕ) (op : Op)
     (driven : Driven) (new : CoreView T E) : Type 0 where
