@@ -1,18 +1,13 @@
 // A call from its first event to its answer.
 ghost use Rattle.std.specs.Prelude.{◌≡◌, ◌<◌, ◌^◌};
 ghost use Rattle.ff_core.specs.Core.{spare_calls};
-ghost use Rattle.ff_core.specs.CoreSound.{IsCoreSound};
 ghost use Rattle.ff_core.specs.Drives.{IsDriven, IsEvent, most_events};
-ghost use Rattle.ff_core.specs.Hierarchy.{lines_under};
-ghost use Rattle.ff_lines.specs.DeviceState.{IsDevice};
-ghost use Rattle.ff_memory.specs.Memory.{IsMemorySound};
 
 use super::Core;
 use crate::turn::{Driven, Turn};
-use ff_base::{Caller, Geometry, PageNo};
+use ff_base::{Caller, Geometry};
 use ff_evict::Pick;
 use ff_flash::Flash;
-use ff_lines::LineDevice;
 use ff_model::Op;
 use ff_policy::Tune;
 
@@ -38,16 +33,6 @@ fn most_events(geometry: &Geometry, op: &Op) -> u32
 }
 
 impl<F: Flash, T: Tune, E: Pick> Core<F, T, E> {
-    // What the parts of every core keep. For the prover alone.
-    fn parts_known(&self)
-        ensures sound { IsCoreSound self.now }
-        ensures memory { IsMemorySound self.now.hierarchy.memory }
-        ensures device { IsDevice (lines_under self.now.hierarchy) }
-    {
-        self.state.hierarchy.memory.known();
-        let _ = self.state.hierarchy.device.resident(PageNo(0));
-    }
-
     // One event of a call.
     #[tactic(auto, using(crate::proofs::DriveEvents::turn_event))]
     fn event(&mut self, caller: Caller, number: u32, op: &Op) -> Turn
