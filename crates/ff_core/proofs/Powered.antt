@@ -217,15 +217,16 @@ asked_on : {T E : Type 0} (refused : Option Reply) (answers : T → ℕ → ℕ 
     → StaysOn (flash_of old.hierarchy) (flash_of new.hierarchy)
 asked_on {T = T} {E = E} (Some reply) answers old caller number op turn new is uncut on =
     ap (λ (c : CoreView T E). (flash_of c.hierarchy).on) is.1 ∙ on
-asked_on None answers old caller number op turn new is = attempt_on answers old caller number op turn new is
+asked_on None answers old caller number op turn new is uncut on =
+    attempt_on answers old caller number op turn new is uncut on
 
 turn_on_by : {T E : Type 0} (powered : Bool) (answers : T → ℕ → ℕ → ℕ → ℕ → Type 0) (old : CoreView T E) (caller : Caller)
     (number : ℕ) (op : Op) (turn : Turn) (new : CoreView T E) → IsTurn powered answers old caller number op turn new
     → StaysOn (flash_of old.hierarchy) (flash_of new.hierarchy)
 turn_on_by {T = T} {E = E} false answers old caller number op turn new is uncut on =
     ap (λ (c : CoreView T E). (flash_of c.hierarchy).on) is.1 ∙ on
-turn_on_by true answers old caller number op turn new is =
-    asked_on (refusal old.opening.pages old.events op) answers old caller number op turn new is
+turn_on_by true answers old caller number op turn new is uncut on =
+    asked_on (refusal old.opening.pages old.events op) answers old caller number op turn new is uncut on
 
 -- one event of a call
 pub turn_on : {T E : Type 0} (answers : T → ℕ → ℕ → ℕ → ℕ → Type 0) (old : CoreView T E) (caller : Caller) (number : ℕ) (op : Op)
