@@ -5,6 +5,7 @@ pub mod BackSound
 pub mod Beginning
 pub mod Counting
 pub mod DriveEvents
+pub mod Driving
 pub mod Ending
 pub mod EntrySteps
 pub mod Evicting

@@ -45,6 +45,7 @@ impl<F: Flash, T: Tune, E: Pick> Core<F, T, E> {
         turn
     }
 
+    #[tactic(auto, using(crate::proofs::Driving::core_few, crate::proofs::Driving::few_blocks, crate::proofs::Driving::driven_none))]
     /// Makes the events of a call until it is answered or the power is off. It takes no memory.
     pub fn drive(&mut self, caller: Caller, number: u32, op: &Op) -> Driven
         requires spare { 0 < spare_calls self.old }
