@@ -35,6 +35,11 @@ use Rattle.ff_core.specs.declared.log.Back.TheVariants.{Idle, Spent}
 use Rattle.ff_core.specs.declared.turn.Turn.{Turn}
 use Rattle.ff_core.proofs.MissRuns.{store_same}
 
+-- the power stayed on from one flash to the next, and from that to a third
+pub stays_more : (a b c : FlashState) → b.plan ≡ a.plan → StaysOn a b → StaysOn b c → StaysOn a c
+stays_more a b c plan first second uncut on =
+    second (record { plan = uncut.plan; told = plan ∙ uncut.told; none = uncut.none }) (first uncut on)
+
 -- an operation without a cut doesn't end the power
 uncut_stop : (fails : Bool) (number : ℕ)
     → stop_of (injected_answer (if fails then Failure else cut_injected (cut_at number []))) ≡ Some OffStop → ⊥
