@@ -13,6 +13,7 @@ pub mod FreshSound
 pub mod KeptSets
 pub mod KeptSteps
 pub mod LinesLeft
+pub mod LogCounts
 pub mod MarkFalls
 pub mod Marked
 pub mod Mays
@@ -21,6 +22,7 @@ pub mod MissFalls
 pub mod MissRuns
 pub mod MissSound
 pub mod MissedCalls
+pub mod Powered
 pub mod Recounting
 pub mod RestFalls
 pub mod Running

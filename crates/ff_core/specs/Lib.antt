@@ -15,3 +15,4 @@ pub mod RecordFields
 pub mod Serving
 pub mod Tally
 pub mod Turns
+pub mod Uncut

@@ -9,9 +9,11 @@ ghost use Rattle.ff_model.specs.declared.counts.Kind.TheVariants.{Promote, Evict
 ghost use Rattle.ff_core.specs.Backs.{IsBack};
 ghost use Rattle.ff_core.specs.Core.{counts_of, spare_calls, spare_turns};
 ghost use Rattle.ff_core.specs.CoreSound.{IsCoreSound};
+ghost use Rattle.ff_core.specs.Drives.{SameSession};
 ghost use Rattle.ff_core.specs.Fresh.{IsFreshFlash, fresh_core};
 ghost use Rattle.ff_core.specs.Hierarchy.{flash_of, lines_under};
 ghost use Rattle.ff_core.specs.Turns.{IsTurn};
+ghost use Rattle.ff_core.specs.Uncut.{StaysOn};
 
 mod driving;
 mod ending;
@@ -102,40 +104,48 @@ impl<F: Flash, T: Tune, E: Pick> Core<F, T, E> {
 
     /// Moves hot pages into frames, a step at a time. A background turn makes the one choice of its kind, and answers
     /// `Idle` exactly where there is none.
-    #[tactic(auto, using(crate::proofs::BackSound::back_keeps))]
+    #[tactic(auto, using(crate::proofs::BackSound::back_keeps, crate::proofs::Powered::back_leaves))]
     pub fn promote_turn(&mut self) -> Back
         requires spare { 0 < spare_turns self.old }
-        ensures { IsBack (flash_of self.old.hierarchy).on E.score Promote self.old result self.new }
+        ensures back { IsBack (flash_of self.old.hierarchy).on E.score Promote self.old result self.new }
+        ensures same { SameSession self.old self.new }
+        ensures on { StaysOn (flash_of self.old.hierarchy) (flash_of self.new.hierarchy) }
     {
         self.parts_known();
         self.state.back(Kind::Promote)
     }
 
     /// Moves pages back to the device, a step at a time.
-    #[tactic(auto, using(crate::proofs::BackSound::back_keeps))]
+    #[tactic(auto, using(crate::proofs::BackSound::back_keeps, crate::proofs::Powered::back_leaves))]
     pub fn evict_turn(&mut self) -> Back
         requires spare { 0 < spare_turns self.old }
-        ensures { IsBack (flash_of self.old.hierarchy).on E.score Evict self.old result self.new }
+        ensures back { IsBack (flash_of self.old.hierarchy).on E.score Evict self.old result self.new }
+        ensures same { SameSession self.old self.new }
+        ensures on { StaysOn (flash_of self.old.hierarchy) (flash_of self.new.hierarchy) }
     {
         self.parts_known();
         self.state.back(Kind::Evict)
     }
 
     /// Seals a flush that waits, or makes a step of the collector.
-    #[tactic(auto, using(crate::proofs::BackSound::back_keeps))]
+    #[tactic(auto, using(crate::proofs::BackSound::back_keeps, crate::proofs::Powered::back_leaves))]
     pub fn collect_turn(&mut self) -> Back
         requires spare { 0 < spare_turns self.old }
-        ensures { IsBack (flash_of self.old.hierarchy).on E.score Collect self.old result self.new }
+        ensures back { IsBack (flash_of self.old.hierarchy).on E.score Collect self.old result self.new }
+        ensures same { SameSession self.old self.new }
+        ensures on { StaysOn (flash_of self.old.hierarchy) (flash_of self.new.hierarchy) }
     {
         self.parts_known();
         self.state.back(Kind::Collect)
     }
 
     /// Drains the oldest posted store.
-    #[tactic(auto, using(crate::proofs::BackSound::back_keeps))]
+    #[tactic(auto, using(crate::proofs::BackSound::back_keeps, crate::proofs::Powered::back_leaves))]
     pub fn drain_turn(&mut self) -> Back
         requires spare { 0 < spare_turns self.old }
-        ensures { IsBack (flash_of self.old.hierarchy).on E.score Drain self.old result self.new }
+        ensures back { IsBack (flash_of self.old.hierarchy).on E.score Drain self.old result self.new }
+        ensures same { SameSession self.old self.new }
+        ensures on { StaysOn (flash_of self.old.hierarchy) (flash_of self.new.hierarchy) }
     {
         self.parts_known();
         self.state.back(Kind::Drain)
@@ -148,8 +158,9 @@ impl<F: Flash, T: Tune, E: Pick> Core<F, T, E> {
         let _ = &self.state.geometry;
     }
 
-    // What the memory and the device under a core keep.
+    // What the parts of every core keep. For the prover alone.
     fn parts_known(&self)
+        ensures sound { IsCoreSound self.now }
         ensures memory { IsMemorySound self.now.hierarchy.memory }
         ensures device { IsDevice (lines_under self.now.hierarchy) }
     {

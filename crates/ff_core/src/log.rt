@@ -1,9 +1,10 @@
 // The background turns of a session.
 ghost use Rattle.std.specs.Prelude.{◌≡◌, ◌<◌, ◌-◌, ◌++◌, ◌∷◌, ◌↔◌, [], length, IfOk, IsTrue, slice_get, option_copied};
+ghost use Rattle.ff_core.specs.Log.{is_did, no_turns, turn_counts};
 
 use ff_base::NoMemory;
 use ff_memory::What;
-use ff_model::Kind;
+use ff_model::{Kind, KindTurns, TurnCounts};
 use std::alloc::Global;
 use std::marker::Model;
 
@@ -92,10 +93,40 @@ impl Log {
         self.turns.get(at as usize)
     }
 
+    /// How many turns of each kind were made, and how many of those did something.
+    pub fn turn_counts(&self) -> TurnCounts
+        ensures { result ≡ turn_counts self.now.turns }
+    {
+        let _len = self.len();
+        let mut counts = no_turns();
+        for turn in self.as_slice() {
+            counts.add(turn.kind, is_did(turn.answer));
+        }
+        counts
+    }
+
     /// All turns, in their order.
     pub fn as_slice(&self) -> &[Turned]
         ensures { result.now ≡ self.now.turns }
     {
         self.turns.as_slice()
     }
+}
+
+fn no_turns() -> TurnCounts
+    ensures { result ≡ no_turns }
+{
+    let none = KindTurns { made: 0, did: 0 };
+    TurnCounts {
+        promote: none,
+        evict: none,
+        collect: none,
+        drain: none,
+    }
+}
+
+fn is_did(answer: Back) -> bool
+    ensures { result ≡ is_did answer }
+{
+    matches!(answer, Back::Did(_))
 }

@@ -1,18 +1,15 @@
 // A call from its first event to its answer.
 ghost use Rattle.std.specs.Prelude.{◌≡◌, ◌<◌, ◌^◌};
 ghost use Rattle.ff_core.specs.Core.{spare_calls};
-ghost use Rattle.ff_core.specs.CoreSound.{IsCoreSound};
 ghost use Rattle.ff_core.specs.Drives.{IsDriven, IsEvent, most_events};
-ghost use Rattle.ff_core.specs.Hierarchy.{lines_under};
-ghost use Rattle.ff_lines.specs.DeviceState.{IsDevice};
-ghost use Rattle.ff_memory.specs.Memory.{IsMemorySound};
+ghost use Rattle.ff_core.specs.Hierarchy.{flash_of};
+ghost use Rattle.ff_core.specs.Uncut.{StaysOn};
 
 use super::Core;
 use crate::turn::{Driven, Turn};
-use ff_base::{Caller, Geometry, PageNo};
+use ff_base::{Caller, Geometry};
 use ff_evict::Pick;
 use ff_flash::Flash;
-use ff_lines::LineDevice;
 use ff_model::Op;
 use ff_policy::Tune;
 
@@ -38,21 +35,12 @@ fn most_events(geometry: &Geometry, op: &Op) -> u32
 }
 
 impl<F: Flash, T: Tune, E: Pick> Core<F, T, E> {
-    // What the parts of every core keep. For the prover alone.
-    fn parts_known(&self)
-        ensures sound { IsCoreSound self.now }
-        ensures memory { IsMemorySound self.now.hierarchy.memory }
-        ensures device { IsDevice (lines_under self.now.hierarchy) }
-    {
-        self.state.hierarchy.memory.known();
-        let _ = self.state.hierarchy.device.resident(PageNo(0));
-    }
-
     // One event of a call.
-    #[tactic(auto, using(crate::proofs::DriveEvents::turn_event))]
+    #[tactic(auto, using(crate::proofs::DriveEvents::turn_event, crate::proofs::Powered::turn_on))]
     fn event(&mut self, caller: Caller, number: u32, op: &Op) -> Turn
         requires spare { 0 < spare_calls self.old }
-        ensures { IsEvent self.old caller number op.now result self.new }
+        ensures event { IsEvent self.old caller number op.now result self.new }
+        ensures on { StaysOn (flash_of self.old.hierarchy) (flash_of self.new.hierarchy) }
     {
         self.parts_known();
         let turn = self.turn(caller, number, op);
@@ -60,11 +48,12 @@ impl<F: Flash, T: Tune, E: Pick> Core<F, T, E> {
         turn
     }
 
-    #[tactic(auto, using(crate::proofs::Driving::core_few, crate::proofs::Driving::few_blocks, crate::proofs::Driving::driven_none))]
     /// Makes the events of a call until it is answered or the power is off. It takes no memory.
+    #[tactic(auto, using(crate::proofs::Driving::core_few, crate::proofs::Driving::few_blocks, crate::proofs::Driving::driven_none))]
     pub fn drive(&mut self, caller: Caller, number: u32, op: &Op) -> Driven
         requires spare { 0 < spare_calls self.old }
-        ensures { IsDriven self.old caller number op.now result self.new }
+        ensures driven { IsDriven self.old caller number op.now result self.new }
+        ensures on { StaysOn (flash_of self.old.hierarchy) (flash_of self.new.hierarchy) }
     {
         self.parts_known();
         for _event in 0..most_events(self.geometry(), op) {
