@@ -39,7 +39,7 @@ use Rattle.ff_gc.specs.Cells.{AreMapped, HasNoPage, IsSafe}
 use Rattle.ff_gc.specs.Collector.{CollectorView}
 use Rattle.ff_gc.specs.Running.{IsCommitting, IsCopy, IsEmptying, IsTabled, is_in, mapped_in}
 use Rattle.ff_gc.specs.Steps.{Commits}
-use Rattle.ff_gc.specs.World.{IsReady, Keeps, World, mapped_bytes}
+use Rattle.ff_gc.specs.World.{IsCollectorReady, Keeps, World, mapped_bytes}
 use Rattle.ff_gc.specs.declared.collector.GcStep.{GcStep}
 use Rattle.ff_gc.specs.declared.phase.Job.{Job}
 use Rattle.ff_gc.specs.declared.phase.Phase.TheVariants.{Erasing}
@@ -48,7 +48,7 @@ abbrev IsCommittingIn : World → Job → Type 0
 IsCommittingIn w job = IsCommitting w.gc.per_block w.gc.moves w.flash.cells w.table w.places job
 
 -- no page is mapped in the destination
-into_empty : (w : World) (job : Job) → IsReady w → IsCommittingIn w job
+into_empty : (w : World) (job : Job) → IsCollectorReady w → IsCommittingIn w job
     → HasNoPage w.gc.per_block w.places job.into.0
 into_empty w job ready c =
     let b = c.reading.copying.blocks in
@@ -56,7 +56,7 @@ into_empty w job ready c =
     (sym (ready.live.tabled.counted job.into.0 b.held.is.in_range) ∙ b.unmapped)
 
 -- the copies can be switched
-pub can_switch : (w : World) (job : Job) → IsReady w → IsCommittingIn w job → CanSwitch w.places w.gc.moves
+pub can_switch : (w : World) (job : Job) → IsCollectorReady w → IsCommittingIn w job → CanSwitch w.places w.gc.moves
 can_switch w job ready c =
     let copies = c.reading.copying.copies in
     let cells = ready.fits.cells in
@@ -101,7 +101,7 @@ listed_of moves i page is found =
     }
 
 -- the destination has as many copies as pages are mapped in the victim, or more
-pub can_end : (w : World) (job : Job) → IsReady w → IsCommittingIn w job
+pub can_end : (w : World) (job : Job) → IsCollectorReady w → IsCommittingIn w job
     → CanEnd w.table job.victim.0 job.into.0
 can_end w job ready c =
     let per = w.gc.per_block in
@@ -226,7 +226,7 @@ victim_empty w job places c switched page new is lies =
       | inr other ↦ other (sym (ap (λ (m : Mapping). m.at.0 / per) (was.now.from_else other)) ∙ new_at)
     ]
 
-switched_mapped : (w : World) (job : Job) (places : MapView) → IsReady w → IsCommittingIn w job
+switched_mapped : (w : World) (job : Job) (places : MapView) → IsCollectorReady w → IsCommittingIn w job
     → IsSwitched w.gc.moves w.places places → AreMapped None w.flash.cells places
 switched_mapped w job places ready c switched = record {
   placed = λ page new is.
@@ -251,7 +251,7 @@ switched_mapped w job places ready c switched = record {
 }
 
 -- how a page is counted in a block, after the switch
-counted_into : (w : World) (job : Job) (places : MapView) → IsReady w → IsCommittingIn w job
+counted_into : (w : World) (job : Job) (places : MapView) → IsCollectorReady w → IsCommittingIn w job
     → IsSwitched w.gc.moves w.places places → (page : PageNo) (o : Option Mapping)
     → mapping_of w.places page ≡ o
     → is_in w.gc.per_block job.into.0 (mapping_of places page) ≡ is_in w.gc.per_block job.victim.0 o
@@ -295,7 +295,7 @@ counted_victim w job places c switched page None is = refl
 counted_victim w job places c switched page (Some m) is =
     ne_eqb (m.at.0 / w.gc.per_block) job.victim.0 (victim_empty w job places c switched page m is)
 
-switched_counted : (w : World) (job : Job) (places : MapView) → IsReady w → IsCommittingIn w job
+switched_counted : (w : World) (job : Job) (places : MapView) → IsCollectorReady w → IsCommittingIn w job
     → IsSwitched w.gc.moves w.places places → (block : ℕ) → block < length w.table.blocks
     → (block_at (after_collection w.table job.victim.0 job.into.0) block).mapped
     ≡ mapped_in w.gc.per_block places block
@@ -349,7 +349,7 @@ by_next_not per next state not_erased not_full not_open is = elim (cases_Bool (e
   ]
 ]
 
-switched_tabled : (w : World) (job : Job) (places : MapView) → IsReady w → IsCommittingIn w job
+switched_tabled : (w : World) (job : Job) (places : MapView) → IsCollectorReady w → IsCommittingIn w job
     → IsSwitched w.gc.moves w.places places
     → IsTabled w.gc.per_block (after_collection w.table job.victim.0 job.into.0) w.flash.cells places
 switched_tabled w job places ready c switched =
@@ -385,7 +385,7 @@ switched_tabled w job places ready c switched =
           ]);
     }
 
-switched_emptying : (w : World) (job : Job) → IsReady w → IsCommittingIn w job
+switched_emptying : (w : World) (job : Job) → IsCollectorReady w → IsCommittingIn w job
     → IsEmptying (after_collection w.table job.victim.0 job.into.0) job.victim
 switched_emptying w job ready c =
     let can = can_end w job ready c in
@@ -439,7 +439,7 @@ switched_emptying w job ready c =
     }
 
 -- the end of a collection
-pub commits_kept : (old new : World) (job : Job) (result : Result GcStep FlashStop) → IsReady old
+pub commits_kept : (old new : World) (job : Job) (result : Result GcStep FlashStop) → IsCollectorReady old
     → IsCommittingIn old job → Commits old job result new → Keeps old new
 commits_kept old new job result ready c r =
     let switched = r.places in

@@ -17,7 +17,7 @@ use Rattle.ff_gc.specs.Cells.{AreSealed, IsSafe}
 use Rattle.ff_gc.specs.Collector.{is_busy}
 use Rattle.ff_gc.specs.Counts.{total_of}
 use Rattle.ff_gc.specs.Steps.{IsStep, Makes, Takes, made, rested}
-use Rattle.ff_gc.specs.World.{Fits, IsReady, Keeps, World}
+use Rattle.ff_gc.specs.World.{Fits, IsCollectorReady, Keeps, World}
 use Rattle.ff_gc.specs.declared.collector.GcStep.{GcStep}
 use Rattle.ff_gc.specs.declared.counts.Counts.{Counts}
 use Rattle.ff_gc.specs.declared.counts.OperationKind.{OperationKind}
@@ -38,7 +38,7 @@ safe_running s sound running = record {
 }
 
 -- the collector can make a step
-pub ready_in : (s : PageStoreView) → IsStoreSound s → s.world.flash.on ≡ true → IsReady s.world
+pub ready_in : (s : PageStoreView) → IsStoreSound s → s.world.flash.on ≡ true → IsCollectorReady s.world
 ready_in s sound on = record {
   on = on;
   fits = sound.fits;

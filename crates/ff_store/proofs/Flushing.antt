@@ -39,7 +39,7 @@ use Rattle.ff_gc.specs.Cells.{HasNoPage, IsSafe}
 use Rattle.ff_gc.specs.Collector.{CollectorView}
 use Rattle.ff_gc.specs.Running.{IsAt, IsLive, IsTabled}
 use Rattle.ff_gc.specs.Steps.{Makes}
-use Rattle.ff_gc.specs.World.{Fits, IsReady, World}
+use Rattle.ff_gc.specs.World.{Fits, IsCollectorReady, World}
 use Rattle.ff_gc.specs.declared.counts.Counts.{Counts}
 use Rattle.ff_gc.specs.declared.counts.OperationKind.TheVariants.{Program}
 use Rattle.ff_gc.specs.declared.phase.Phase.{Phase}
@@ -123,7 +123,7 @@ open_small : (per : ℕ) (entry : BlockEntry) → StateFits per entry.state entr
     → entry.next < per
 open_small per entry fits is = subst (λ s. StateFits per s entry.next entry.mapped) is fits
 
-pub target_of : (w : World) (block at : ℕ) → IsTableSound w.table → IsReady w → IsWritePlace w.table block at
+pub target_of : (w : World) (block at : ℕ) → IsTableSound w.table → IsCollectorReady w → IsWritePlace w.table block at
     → IsTarget w block at
 target_of w block at sound ready place =
     let per = w.gc.per_block in
@@ -253,7 +253,7 @@ flushed_keeps per entry not_waiting = record {
 
 -- what holds with the power on, after a program
 flushed_live : (w : World) (cells : List Cell) (block at : ℕ) (bytes : List ℕ) (spare : Spare)
-    (result : Result (Unit {0}) FlashStop) → IsReady w → IsTarget w block at → Programs w.flash.cells at bytes spare result cells
+    (result : Result (Unit {0}) FlashStop) → IsCollectorReady w → IsTarget w block at → Programs w.flash.cells at bytes spare result cells
     → IsLive w.gc cells (flushed_table w block) (drawn_map w.places)
 flushed_live w cells block at bytes spare result ready t programs =
     let per = w.gc.per_block in
@@ -302,7 +302,7 @@ flushed_live w cells block at bytes spare result ready t programs =
 
 -- what holds always, after a program
 flushed_safe : (w : World) (flash : FlashState) (counts : Counts) (block at : ℕ) (bytes : List ℕ) (spare : Spare)
-    (result : Result (Unit {0}) FlashStop) (stop : Option FlashStop) → IsReady w → IsTarget w block at
+    (result : Result (Unit {0}) FlashStop) (stop : Option FlashStop) → IsCollectorReady w → IsTarget w block at
     → Makes Program w stop (record w { flash = flash; counts = counts })
     → Programs w.flash.cells at bytes spare result flash.cells
     → IsSafe None (length w.table.blocks) w.gc.per_block flash.operations flash.cells (drawn_map w.places)
@@ -358,7 +358,7 @@ flushed_store s flash counts block waits = record s {
 }
 
 flushed_pending : (s : PageStoreView) (flash : FlashState) (counts : Counts) (page : PageNo) (bytes : List ℕ) (block : ℕ)
-    (at : Ppn) → IsReady s.world → IsTarget s.world block at.0 → length bytes ≡ PAGE_BYTES
+    (at : Ppn) → IsCollectorReady s.world → IsTarget s.world block at.0 → length bytes ≡ PAGE_BYTES
     → Programs s.world.flash.cells at.0 bytes (spare_of (pending_at page at s.world.places)) (Ok tt) flash.cells
     → IsPending (flushed_store s flash counts block (Some (pending_at page at s.world.places))) (pending_at page at s.world.places)
 flushed_pending s flash counts page bytes block at ready t size programs =
