@@ -1,5 +1,6 @@
 pub mod Around
 pub mod Basics
+pub mod Bests
 pub mod Calling
 pub mod Flushing
 pub mod Fresh

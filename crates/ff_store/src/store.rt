@@ -15,6 +15,7 @@ ghost use Rattle.ff_store.specs.Calls.{Collects, CollectsFor, CollectsNow, Fetch
 ghost use Rattle.ff_store.specs.Left.{left_of};
 ghost use Rattle.ff_store.specs.PageStore.{IsStoreSound, new_store};
 ghost use Rattle.ff_store.specs.Pages.{is_mapped, mapped_with, page_capacity};
+ghost use Rattle.ff_store.specs.Recoverable.{IsRecoverable};
 ghost use Rattle.ff_store.specs.declared.store.FlushStep.TheVariants.{Collected, Programmed};
 
 use crate::pending::Pending;
@@ -130,6 +131,7 @@ impl<F: Flash> PageStore<F> {
     /// What every store keeps. For the prover alone.
     pub fn known(&self)
         ensures store { IsStoreSound self.now }
+        ensures recoverable { IsRecoverable self.now }
         ensures table { IsTableSound self.now.world.table }
         ensures map { IsMapSound self.now.world.places }
     {
