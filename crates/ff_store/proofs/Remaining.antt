@@ -18,7 +18,7 @@ use Rattle.ff_gc.specs.declared.collector.GcStep.{GcStep}
 use Rattle.ff_gc.specs.declared.collector.GcStep.TheVariants.{Idle as IdleStep}
 use Rattle.ff_gc.specs.declared.phase.Phase.{Phase}
 use Rattle.ff_gc.specs.declared.phase.Phase.TheVariants.{Idle, Programming, Reading, Sealing, Commit, Erasing, Aborting}
-use Rattle.ff_store.proofs.Flushing.{found_of}
+use Rattle.ff_store.proofs.Targets.{found_of}
 use Rattle.ff_store.specs.Left.{is_ending, left_of}
 
 some_not : (n : ℕ) → 0 < n → not (eqb n 0) ≡ true
