@@ -25,7 +25,7 @@ use Rattle.ff_gc.proofs.Begun.{begun_ready, erased_next}
 use Rattle.ff_gc.proofs.Emptied.{emptying_is}
 use Rattle.ff_gc.proofs.Numbers.{place_is}
 use Rattle.ff_gc.proofs.PageCopies.{at_phase}
-use Rattle.ff_gc.proofs.Switched.{can_end}
+use Rattle.ff_gc.proofs.Switching.{can_end}
 use Rattle.ff_gc.specs.Collector.{CollectorView}
 use Rattle.ff_gc.specs.Left.{IsEnding, IsEndingAt, is_open, left_from, left_in, open_count}
 use Rattle.ff_gc.specs.Originals.{IsAfter, IsNext, move_to, past}

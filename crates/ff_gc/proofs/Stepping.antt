@@ -10,7 +10,7 @@ use Rattle.ff_gc.proofs.Emptied.{emptying_is, emptying_ready, erases_kept, given
 use Rattle.ff_gc.proofs.Keeping.{keeps_after, same_changed}
 use Rattle.ff_gc.proofs.PageCopies.{at_phase, programs_kept, reads_kept}
 use Rattle.ff_gc.proofs.PageSeals.{seals_kept}
-use Rattle.ff_gc.proofs.Switched.{commits_kept}
+use Rattle.ff_gc.proofs.Committed.{commits_kept}
 use Rattle.ff_gc.specs.Originals.{IsAllSeen, IsNext}
 use Rattle.ff_gc.specs.Steps.{
   Begins,
