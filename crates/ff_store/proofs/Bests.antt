@@ -4,7 +4,6 @@ use Rattle.std.proofs.lemmas.Bool.{cases_Bool, eq-eqb, eqb-true, ltb-false, ltb-
 use Rattle.std.proofs.lemmas.Option.{none-some, same_Some}
 use Rattle.ff_base.specs.declared.numbers.PageNo.{PageNo}
 use Rattle.ff_flash.specs.Cells.{Cell, cell_at, closed, erased, sealed, spoiled}
-use Rattle.ff_flash.specs.declared.spare.Spare.{Spare}
 use Rattle.ff_gc.proofs.PageCopies.{same_page}
 use Rattle.ff_store.specs.Best.{Version, best, newer, sealed_as}
 

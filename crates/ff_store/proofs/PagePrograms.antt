@@ -1,8 +1,7 @@
 -- A page is programmed.
-use Rattle.std.proofs.Common.{◌≡◌, ◌≢◌, ◌<◌, ◌≤◌, ◌+◌, ◌*◌, ◌/◌, ◌%◌, ℕ, suc, Bool, true, cond, eqb, List, [], ◌∷◌, length, get_or, set, Option, None, Some, inl, inr, refl, sym, ap, subst, ◌∙◌, arith}
-use Rattle.std.specs.Prelude.{◌⊎◌, Result, Ok, Err, count_by}
-use Rattle.std.proofs.lemmas.Bool.{both_ways, cases_Bool}
-use Rattle.std.proofs.lemmas.List.{get_or-set_other, get_or-set_same, length-set}
+use Rattle.std.proofs.Common.{◌≡◌, ◌≢◌, ◌<◌, ◌≤◌, ◌+◌, ◌/◌, ℕ, true, eqb, List, length, Option, None, Some, inl, inr, refl, sym, ap, subst, ◌∙◌, arith}
+use Rattle.std.specs.Prelude.{◌⊎◌, Result, Ok, Err}
+use Rattle.std.proofs.lemmas.Bool.{cases_Bool}
 use Rattle.std.proofs.lemmas.Option.{none-some, same_Some}
 use Rattle.ff_base.specs.declared.numbers.PageNo.{PageNo}
 use Rattle.ff_base.specs.declared.numbers.Ppn.{Ppn}
@@ -15,35 +14,27 @@ use Rattle.ff_flash.proofs.OperationCells.{
   program_worked,
 }
 use Rattle.ff_flash.proofs.SealedCells.{erased_unsealed}
-use Rattle.ff_flash.specs.Cells.{Cell, Programs, cell_at, erased}
+use Rattle.ff_flash.specs.Cells.{Cell, Programs, cell_at}
 use Rattle.ff_flash.specs.FlashState.{FlashState, Operates}
 use Rattle.ff_flash.specs.declared.flash.FlashStop.{FlashStop}
 use Rattle.ff_flash.specs.declared.flash.FlashStop.TheVariants.{Failed, Off}
 use Rattle.ff_flash.specs.declared.spare.Spare.{Spare}
 use Rattle.ff_space.proofs.Changed.{block_at-changed_at, block_at-changed_at_other, length-changed_at}
-use Rattle.ff_space.specs.Blocks.{StateFits, advanced, erased_block, is_erased, raised_state, waiting}
-use Rattle.ff_space.specs.BlockTable.{IsInState, IsTableSound, TableView, block_at, changed_at, erased_count}
+use Rattle.ff_space.specs.Blocks.{advanced, raised_state}
+use Rattle.ff_space.specs.BlockTable.{IsTableSound, TableView, block_at, changed_at}
 use Rattle.ff_space.specs.declared.block.BlockEntry.{BlockEntry}
 use Rattle.ff_space.specs.declared.block.BlockState.{BlockState}
 use Rattle.ff_space.specs.declared.block.BlockState.TheVariants.{Erased, Full, Held, Open, Waiting}
 use Rattle.ff_map.specs.PageMap.{MapView, drawn_map}
-use Rattle.ff_gc.proofs.Begun.{erased_next}
-use Rattle.ff_gc.proofs.Counting.{count_miss, count_set}
-use Rattle.ff_gc.proofs.Emptied.{no_page_of}
 use Rattle.ff_gc.proofs.Keeping.{not_off}
-use Rattle.ff_gc.proofs.Numbers.{block_of_place, place_within, rest_of_place}
-use Rattle.ff_gc.proofs.PageCopies.{write_place_blank}
 use Rattle.ff_gc.proofs.Retaining.{retains_programmed, safe_retained}
 use Rattle.ff_gc.proofs.Tables.{KeepsPages, state_after, tabled_programmed}
-use Rattle.ff_gc.specs.Cells.{HasNoPage, IsSafe}
-use Rattle.ff_gc.specs.Collector.{CollectorView}
-use Rattle.ff_gc.specs.Running.{IsAt, IsLive, IsTabled}
+use Rattle.ff_gc.specs.Cells.{IsSafe}
+use Rattle.ff_gc.specs.Running.{IsLive}
 use Rattle.ff_gc.specs.Steps.{Makes}
 use Rattle.ff_gc.specs.World.{Fits, IsCollectorReady, World}
 use Rattle.ff_gc.specs.declared.counts.Counts.{Counts}
 use Rattle.ff_gc.specs.declared.counts.OperationKind.TheVariants.{Program}
-use Rattle.ff_gc.specs.declared.phase.Phase.{Phase}
-use Rattle.ff_gc.specs.declared.phase.Phase.TheVariants.{Idle, Programming, Reading, Sealing, Commit, Erasing, Aborting}
 use Rattle.ff_store.proofs.Around.{IsAside, at_aside, not_victim}
 use Rattle.ff_store.proofs.Basics.{counted_after, elsewhere_none, ready_in, waiting_none}
 use Rattle.ff_store.specs.Calls.{IsWritePlace, opened_block, pending_at}
