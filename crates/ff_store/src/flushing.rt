@@ -20,7 +20,7 @@ ghost use Rattle.ff_store.specs.declared.store.FlushStep.TheVariants.{Collected,
 
 use crate::pending::Pending;
 use crate::store::{FlushStep, PageStore};
-use crate::writing::{WritePlace, drop_old, use_place, write_place};
+use crate::writing::{WritePlace, drop_old, map_page, use_place, write_place};
 use ff_base::{Block, PageBuf, PageNo};
 use ff_flash::{Flash, FlashStop, Spare};
 use ff_gc::OperationKind;
@@ -123,7 +123,7 @@ impl<F: Flash> PageStore<F> {
             Ok(()) => {
                 drop_old(&mut self.space, &self.places, self.per_block, pending.page);
                 self.space.add_mapped(Block(pending.at.0 / self.per_block));
-                self.places.set(pending.page, pending.at, pending.version);
+                map_page(&mut self.places, pending);
                 self.waits = None;
                 Ok(FlushStep::Sealed(pending.page))
             }
