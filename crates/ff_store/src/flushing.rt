@@ -1,21 +1,13 @@
 // How a page is flushed: it is programmed, and sealed by a later step.
-ghost use Rattle.std.specs.Prelude.{◌≡◌, ◌≢◌, ◌*◌, ◌+◌, ◌<◌, ◌≤◌, ◌^◌, ◌↔◌, ◌&&◌, true, false, length, replicate, IfOk, IfErr, IfSome, IsTrue, MatchOption, MatchResult, if◌then◌else◌, None, Some, Ok, Err, is_some};
-ghost use Rattle.ff_base.specs.Geometry.{IsWithinLimits};
-ghost use Rattle.ff_base.specs.Page.{blank_page};
-ghost use Rattle.ff_flash.specs.Cells.{IsSealed, cell_at, erased};
-ghost use Rattle.ff_flash.specs.FlashState.{HasOperationsLeft, powered_off};
+ghost use Rattle.std.specs.Prelude.{◌≡◌, ◌≢◌, ◌<◌, ◌≤◌, true, length, IfOk, IfErr, if◌then◌else◌, None, Some, Ok, Err};
+ghost use Rattle.ff_flash.specs.FlashState.{HasOperationsLeft};
 ghost use Rattle.ff_flash.specs.Injected.{stop_of};
 ghost use Rattle.ff_flash.specs.declared.flash.FlashStop.TheVariants.{Failed, Off};
-ghost use Rattle.ff_space.specs.BlockTable.{IsTableSound, block_at, new_table};
+ghost use Rattle.ff_space.specs.BlockTable.{block_at};
 ghost use Rattle.ff_space.specs.declared.block.BlockState.TheVariants.{Erased, Open};
-ghost use Rattle.ff_map.specs.PageMap.{IsMapSound, empty_map, place_of};
-ghost use Rattle.ff_gc.specs.Collector.{new_collector};
-ghost use Rattle.ff_gc.specs.World.{page_bytes};
-ghost use Rattle.ff_store.specs.Calls.{Collects, CollectsFor, CollectsNow, Fetches, Flushes, IsCall, IsProgrammed, IsWritePlace, MatchSealed, ProgramsPage, SameBytes, SealsPage, WantsCollect, waiting_page};
+ghost use Rattle.ff_store.specs.Calls.{Flushes, IsCall, IsProgrammed, IsWritePlace, MatchSealed, ProgramsPage, SameBytes, SealsPage};
 ghost use Rattle.ff_store.specs.Left.{left_of};
-ghost use Rattle.ff_store.specs.PageStore.{IsStoreSound, new_store};
-ghost use Rattle.ff_store.specs.Pages.{is_mapped, mapped_with, page_capacity};
-ghost use Rattle.ff_store.specs.Recoverable.{IsRecoverable};
+ghost use Rattle.ff_store.specs.Pages.{mapped_with, page_capacity};
 ghost use Rattle.ff_store.specs.declared.store.FlushStep.TheVariants.{Collected, Programmed};
 
 use crate::pending::Pending;

@@ -1,17 +1,15 @@
 // A store of pages, and its calls.
-ghost use Rattle.std.specs.Prelude.{◌≡◌, ◌≢◌, ◌*◌, ◌+◌, ◌<◌, ◌≤◌, ◌^◌, ◌↔◌, ◌&&◌, true, false, length, replicate, IfOk, IfErr, IfSome, IsTrue, MatchOption, MatchResult, if◌then◌else◌, None, Some, Ok, Err, is_some};
+ghost use Rattle.std.specs.Prelude.{◌≡◌, ◌≢◌, ◌*◌, ◌+◌, ◌<◌, ◌≤◌, ◌↔◌, ◌&&◌, true, false, length, replicate, IfOk, IfErr, IfSome, IsTrue, MatchOption, MatchResult, None, Some, Ok, Err, is_some};
 ghost use Rattle.ff_base.specs.Geometry.{IsWithinLimits};
-ghost use Rattle.ff_base.specs.Page.{blank_page};
 ghost use Rattle.ff_flash.specs.Cells.{IsSealed, cell_at, erased};
 ghost use Rattle.ff_flash.specs.FlashState.{HasOperationsLeft, powered_off};
 ghost use Rattle.ff_flash.specs.Injected.{stop_of};
 ghost use Rattle.ff_flash.specs.declared.flash.FlashStop.TheVariants.{Failed, Off};
-ghost use Rattle.ff_space.specs.BlockTable.{IsTableSound, block_at, new_table};
-ghost use Rattle.ff_space.specs.declared.block.BlockState.TheVariants.{Erased, Open};
+ghost use Rattle.ff_space.specs.BlockTable.{IsTableSound, new_table};
 ghost use Rattle.ff_map.specs.PageMap.{IsMapSound, empty_map, place_of};
 ghost use Rattle.ff_gc.specs.Collector.{new_collector};
 ghost use Rattle.ff_gc.specs.World.{page_bytes};
-ghost use Rattle.ff_store.specs.Calls.{Collects, CollectsFor, CollectsNow, Fetches, Flushes, IsCall, IsProgrammed, IsWritePlace, MatchSealed, ProgramsPage, SameBytes, SealsPage, WantsCollect, waiting_page};
+ghost use Rattle.ff_store.specs.Calls.{Collects, Fetches, Flushes, IsCall, IsProgrammed, MatchSealed, SameBytes, SealsPage, WantsCollect, waiting_page};
 ghost use Rattle.ff_store.specs.Left.{left_of};
 ghost use Rattle.ff_store.specs.PageStore.{IsStoreSound, new_store};
 ghost use Rattle.ff_store.specs.Pages.{is_mapped, mapped_with, page_capacity};
@@ -19,9 +17,8 @@ ghost use Rattle.ff_store.specs.Recoverable.{IsRecoverable};
 ghost use Rattle.ff_store.specs.declared.store.FlushStep.TheVariants.{Collected, Programmed};
 
 use crate::pending::Pending;
-use crate::writing::{WritePlace, drop_old, use_place, write_place};
-use ff_base::{Block, Geometry, NoMemory, PageBuf, PageNo, Ppn};
-use ff_flash::{Flash, FlashStop, Spare};
+use ff_base::{Geometry, NoMemory, PageBuf, PageNo, Ppn};
+use ff_flash::{Flash, FlashStop};
 use ff_gc::{Collector, Counts, GcStep, OperationKind};
 use ff_map::PageMap;
 use ff_space::BlockTable;
@@ -129,9 +126,11 @@ impl<F: Flash> PageStore<F> {
     }
 
     /// What every store keeps. For the prover alone.
+    #[tactic(auto, using(crate::proofs::Remaining::left_most))]
     pub fn known(&self)
         ensures store { IsStoreSound self.now }
         ensures recoverable { IsRecoverable self.now }
+        ensures left { left_of self.now.world ≤ 6 * self.now.world.gc.per_block + 5 }
         ensures table { IsTableSound self.now.world.table }
         ensures map { IsMapSound self.now.world.places }
     {

@@ -1,9 +1,9 @@
 // A store with room for all its pages, whose calls see to it that they may be made.
-ghost use Rattle.std.specs.Prelude.{◌≡◌, ◌≤◌, IfOk, IsTrue, None, is_some};
+ghost use Rattle.std.specs.Prelude.{◌≡◌, ◌<◌, ◌≤◌, IfOk, IsTrue, None, is_some, length};
 ghost use Rattle.ff_base.specs.Geometry.{IsWithinLimits, capacity_of};
 ghost use Rattle.ff_flash.specs.FlashState.{HasOperationsLeft};
 ghost use Rattle.ff_flash.specs.Plans.{IsPlan, planned_of};
-ghost use Rattle.ff_store.specs.Pages.{HasRoomForAll};
+ghost use Rattle.ff_store.specs.Pages.{HasRoomForAll, mapped_with, page_capacity};
 
 use crate::{FlushStep, PageStore};
 use ff_base::{Geometry, NoMemory, PageBuf, PageNo};
@@ -109,7 +109,7 @@ impl Rig {
     }
 
     pub fn flush_step(&mut self, page: u32, from: &PageBuf) -> Step {
-        if !may_begin(&self.store) || page >= self.store.pages() {
+        if !may_begin(&self.store) || !has_room(self, PageNo(page)) {
             return None;
         }
         Some(self.store.flush_step(PageNo(page), from))
@@ -148,4 +148,13 @@ impl Rig {
     pub fn into_flash(self) -> SimFlash {
         self.store.into_flash()
     }
+}
+
+#[tactic(auto, using(crate::proofs::Rooms::room_for))]
+fn has_room(rig: &Rig, page: PageNo) -> bool
+    ensures page { IsTrue result → page.0 < length rig.now.store.world.places.pages }
+    ensures room { IsTrue result
+        → mapped_with rig.now.store.world.places page ≤ page_capacity rig.now.store.world }
+{
+    page.0 < rig.store.pages()
 }
