@@ -29,7 +29,7 @@ use Rattle.ff_gc.proofs.PageCopies.{at_phase}
 use Rattle.ff_gc.proofs.Tables.{KeepsPages, none_after, only_changed, state_after, tabled_changed}
 use Rattle.ff_gc.specs.Running.{HasStale, is_in, mapped_in}
 use Rattle.ff_gc.specs.Steps.{begun_with, job_of}
-use Rattle.ff_gc.specs.World.{IsReady, World}
+use Rattle.ff_gc.specs.World.{IsCollectorReady, World}
 use Rattle.ff_gc.specs.declared.phase.Phase.TheVariants.{Idle, Reading}
 
 -- a mapping is one of the first pages of a block, or is the next one
@@ -129,10 +129,10 @@ pub erased_next : (per : ℕ) (entry : BlockEntry) → IsBlockSound per entry �
     → entry.next ≡ 0
 erased_next per entry sound is = subst (λ s. StateFits per s entry.next entry.mapped) is sound.fits
 
-pub begun_ready : (w : World) (victim into : Block) → IsTableSound w.table → IsReady w
+pub begun_ready : (w : World) (victim into : Block) → IsTableSound w.table → IsCollectorReady w
     → w.gc.phase ≡ Idle → IsInState w.table.blocks Full victim.0
     → IsInState w.table.blocks Erased into.0 → (block_at w.table victim.0).mapped < w.gc.per_block
-    → IsReady (begun_with w (job_of victim into))
+    → IsCollectorReady (begun_with w (job_of victim into))
 begun_ready w victim into sound ready phase full blank fewer =
     let per = w.gc.per_block in
     let change = after_hold w.table.per_block true in

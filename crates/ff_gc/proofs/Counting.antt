@@ -141,3 +141,23 @@ count_listed p d (n ∷ rest) xs past listed = elim (cases_lt n (length xs)) [
       ]) in
       omega arith
 ]
+
+-- where an element passes, so does the other list's at its place: no more pass
+pub count_fewer : {X Y : Type 0} (p : X → Bool) (q : Y → Bool) (xs : List X) (ys : List Y) (d : X) (e : Y)
+    → length xs ≡ length ys
+    → ((i : ℕ) → i < length xs → p (get_or xs i d) ≡ true → q (get_or ys i e) ≡ true)
+    → count_by p xs ≤ count_by q ys
+count_fewer p q [] ys d e same also = omega arith
+count_fewer p q (x ∷ xs) [] d e same also = absurd (omega arith)
+count_fewer p q (x ∷ xs) (y ∷ ys) d e same also =
+    let later = count_fewer p q xs ys d e (omega arith) (λ i below. also (suc i) (omega arith)) in
+    elim (cases_Bool (p x)) [
+      | inl hit ↦
+          (let one = count_hit p x xs hit in
+          let other = count_hit q y ys (also 0 (omega arith) hit) in
+          omega arith)
+      | inr miss ↦
+          (let one = count_miss p x xs miss in
+          let other = count_more q y ys in
+          omega arith)
+    ]

@@ -36,7 +36,7 @@ use Rattle.ff_gc.specs.Cells.{HasNoPage}
 use Rattle.ff_gc.specs.Collector.{CollectorView}
 use Rattle.ff_gc.specs.Running.{IsEmptying, IsLive, IsTabled, is_in, mapped_in}
 use Rattle.ff_gc.specs.Steps.{ErasesBlock, emptying, given_up}
-use Rattle.ff_gc.specs.World.{IsReady, Keeps, World}
+use Rattle.ff_gc.specs.World.{IsCollectorReady, Keeps, World}
 use Rattle.ff_gc.specs.declared.collector.GcStep.{GcStep}
 use Rattle.ff_gc.specs.declared.counts.OperationKind.TheVariants.{Erase}
 use Rattle.ff_gc.specs.declared.phase.Job.{Job}
@@ -81,7 +81,7 @@ erased_tabled per table cells new places block e size here elsewhere t = record 
 
 -- the waiting block is erased
 pub erases_kept : (old new : World) (block : Block) (ends : GcStep) (result : Result GcStep FlashStop)
-    → IsReady old → IsEmptying old.table block → ErasesBlock old block ends result new → Keeps old new
+    → IsCollectorReady old → IsEmptying old.table block → ErasesBlock old block ends result new → Keeps old new
 erases_kept old new block ends (Ok step) ready e r =
     let per = old.gc.per_block in
     let flash_per = ready.fits.per_block in
@@ -141,7 +141,7 @@ waiting_unmapped table block within none =
     ap (λ (e : BlockEntry). e.mapped) (block_at-changed_at table block waiting within) ∙ none
 
 -- a block without mapped pages waits, where no collection runs
-pub emptying_is : (w : World) (victim : Block) → IsReady w → w.gc.phase ≡ Idle
+pub emptying_is : (w : World) (victim : Block) → IsCollectorReady w → w.gc.phase ≡ Idle
     → IsInState w.table.blocks Full victim.0 → (block_at w.table victim.0).mapped ≡ 0
     → IsEmptying (changed_at w.table victim.0 waiting) victim
 emptying_is w victim ready phase full none =
@@ -151,9 +151,9 @@ emptying_is w victim ready phase full none =
       none_held = none_after w.table victim.0 waiting Held idle.none_held (λ same. cc);
     }
 
-pub emptying_ready : (w : World) (victim : Block) → IsReady w → w.gc.phase ≡ Idle
+pub emptying_ready : (w : World) (victim : Block) → IsCollectorReady w → w.gc.phase ≡ Idle
     → IsInState w.table.blocks Full victim.0 → (block_at w.table victim.0).mapped ≡ 0
-    → IsReady (emptying w victim)
+    → IsCollectorReady (emptying w victim)
 emptying_ready w victim ready phase full none =
     ready_changed w (record w.gc { phase = Erasing victim }) victim.0 waiting refl ready
     record {
@@ -163,7 +163,7 @@ emptying_ready w victim ready phase full none =
     }
 
 -- the destination of a collection that is given up waits
-pub given_up_is : (w : World) (job : Job) (original : Original) → IsReady w
+pub given_up_is : (w : World) (job : Job) (original : Original) → IsCollectorReady w
     → w.gc.phase ≡ Programming job original
     → IsEmptying (changed_at w.table job.into.0 waiting) job.into
 given_up_is w job original ready phase =
@@ -175,8 +175,8 @@ given_up_is w job original ready phase =
       none_held = none_left w.table job.into.0 waiting Held b.held (λ same. cc);
     }
 
-pub given_up_ready : (w : World) (job : Job) (original : Original) → IsReady w
-    → w.gc.phase ≡ Programming job original → IsReady (given_up w job)
+pub given_up_ready : (w : World) (job : Job) (original : Original) → IsCollectorReady w
+    → w.gc.phase ≡ Programming job original → IsCollectorReady (given_up w job)
 given_up_ready w job original ready phase =
     let p = at_phase w (Programming job original) ready phase in
     ready_changed w (record w.gc { phase = Aborting job.into; moves = [] }) job.into.0 waiting refl ready

@@ -25,13 +25,13 @@ use Rattle.ff_gc.proofs.Begun.{begun_ready, erased_next}
 use Rattle.ff_gc.proofs.Emptied.{emptying_is}
 use Rattle.ff_gc.proofs.Numbers.{place_is}
 use Rattle.ff_gc.proofs.PageCopies.{at_phase}
-use Rattle.ff_gc.proofs.Switched.{can_end}
+use Rattle.ff_gc.proofs.Switching.{can_end}
 use Rattle.ff_gc.specs.Collector.{CollectorView}
 use Rattle.ff_gc.specs.Left.{IsEnding, IsEndingAt, is_open, left_from, left_in, open_count}
 use Rattle.ff_gc.specs.Originals.{IsAfter, IsNext, move_to, past}
 use Rattle.ff_gc.specs.Running.{HasStale, HasStaleBeside, IsCommitting, IsEmptying}
 use Rattle.ff_gc.specs.Steps.{Begins, Commits, ErasesBlock, IsStep, IsStepAt, ProgramsNext, ReadsNext, SealsCopy, begun_with, empty, emptying, full, given_up, idle, job_of, mapped, none, programs, reads}
-use Rattle.ff_gc.specs.World.{IsReady, World}
+use Rattle.ff_gc.specs.World.{IsCollectorReady, World}
 use Rattle.ff_gc.specs.declared.collector.GcStep.{GcStep}
 use Rattle.ff_gc.specs.declared.collector.GcStep.TheVariants.{Idle as IdleStep, Erased as ErasedStep, Aborted}
 use Rattle.ff_gc.specs.declared.phase.Job.{Job}
@@ -107,7 +107,7 @@ step_falls (Aborting block) old new step some other r =
     let none_left = erases_fall old new block Aborted step r in omega arith
 
 -- a step that worked leaves fewer steps
-pub steps_fall : (old new : World) (step : GcStep) → IsReady old → step ≢ IdleStep → IsStep old (Ok step) new
+pub steps_fall : (old new : World) (step : GcStep) → IsCollectorReady old → step ≢ IdleStep → IsStep old (Ok step) new
     → left_in old.gc.per_block new.gc.phase < left_from old.gc.per_block old.gc.phase
 steps_fall old new step ready other r = step_falls old.gc.phase old new step ready.fits.some other r
 
@@ -148,7 +148,7 @@ erases_end old new block ends step e r some =
     rw (phase, r.table) (erased_ends old.table block e some)
 
 -- the end of a collection whose destination isn't full
-committed_ends : (w : World) (job : Job) → IsReady w
+committed_ends : (w : World) (job : Job) → IsCollectorReady w
     → IsCommitting w.gc.per_block w.gc.moves w.flash.cells w.table w.places job
     → (block_at w.table job.into.0).next ≡ length w.gc.moves
     → 0 < open_count (after_collection w.table job.victim.0 job.into.0).blocks
@@ -179,7 +179,7 @@ committed_ends w job ready c same =
       ]
     ]
 
-commits_end : (old new : World) (job : Job) (step : GcStep) → IsReady old
+commits_end : (old new : World) (job : Job) (step : GcStep) → IsCollectorReady old
     → IsCommitting old.gc.per_block old.gc.moves old.flash.cells old.table old.places job
     → Commits old job (Ok step) new → (block_at old.table job.into.0).next ≡ length old.gc.moves
     → IsEnding new.gc new.table
@@ -187,7 +187,7 @@ commits_end old new job step ready c r same =
     let phase : new.gc.phase ≡ Erasing job.victim = ap (λ (g : CollectorView). g.phase) r.gc in
     rw (phase, r.table) (committed_ends old job ready c same)
 
-reads_end : (old new : World) (job : Job) (step : GcStep) → IsReady old → old.gc.phase ≡ Reading job
+reads_end : (old new : World) (job : Job) (step : GcStep) → IsCollectorReady old → old.gc.phase ≡ Reading job
     → ReadsNext old job (Ok step) new → (block_at old.table job.into.0).next ≡ length old.gc.moves
     → IsEnding new.gc new.table
 reads_end old new job step ready is (reads original next r) same =
@@ -197,7 +197,7 @@ reads_end old new job step ready is (reads original next r) same =
 reads_end old new job step ready is (none all r) same =
     commits_end old new job step ready (record { reading = at_phase old (Reading job) ready is; all_seen = all }) r same
 
-programs_end : (old new : World) (job : Job) (original : Original) (step : GcStep) → IsReady old
+programs_end : (old new : World) (job : Job) (original : Original) (step : GcStep) → IsCollectorReady old
     → old.gc.phase ≡ Programming job original → ProgramsNext old job original (Ok step) new
     → (block_at old.table job.into.0).next ≡ length old.gc.moves → IsEnding new.gc new.table
 programs_end old new job original step ready is (programs small r) same =
@@ -241,7 +241,7 @@ seals_end old new job original at step r same =
     r.gc.phase refl (omega arith)
 
 -- a collection that begins
-begins_end : (old new : World) (step : GcStep) → IsTableSound old.table → IsReady old → old.gc.phase ≡ Idle
+begins_end : (old new : World) (step : GcStep) → IsTableSound old.table → IsCollectorReady old → old.gc.phase ≡ Idle
     → step ≢ IdleStep → Begins old (Ok step) new → IsEnding new.gc new.table
 begins_end old new step sound ready is other (idle all same same_world) =
     absurd (other (let e : step ≡ IdleStep = cc in e))
@@ -269,7 +269,7 @@ begins_end old new step sound ready is other (mapped victim into v more least r)
     ap (λ (e : BlockEntry). e.next) (block_at-changed_at old.table into.0 change least.has.in_range) ∙ next in
     reads_end (begun_with old (job_of victim into)) new (job_of victim into) step begun refl r same
 
-step_ends : (phase : Phase) (old new : World) (step : GcStep) → IsTableSound old.table → IsReady old
+step_ends : (phase : Phase) (old new : World) (step : GcStep) → IsTableSound old.table → IsCollectorReady old
     → old.gc.phase ≡ phase → step ≢ IdleStep → IsStepAt phase old (Ok step) new
     → (phase ≡ Idle) ⊎ IsEndingAt old.gc.moves old.table phase → IsEnding new.gc new.table
 step_ends Idle old new step sound ready is other r ending = begins_end old new step sound ready is other r
@@ -292,6 +292,6 @@ step_ends (Aborting block) old new step sound ready is other r (inr some) =
     erases_end old new block Aborted step (at_phase old (Aborting block) ready is) r some
 
 -- a collection that is begun, or ends with a page to program, ends with one after a step that worked
-pub steps_end : (old new : World) (step : GcStep) → IsTableSound old.table → IsReady old → step ≢ IdleStep
+pub steps_end : (old new : World) (step : GcStep) → IsTableSound old.table → IsCollectorReady old → step ≢ IdleStep
     → IsStep old (Ok step) new → (old.gc.phase ≡ Idle) ⊎ IsEnding old.gc old.table → IsEnding new.gc new.table
 steps_end old new step sound ready other r ending = step_ends old.gc.phase old new step sound ready refl other r ending

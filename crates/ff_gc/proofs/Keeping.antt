@@ -12,11 +12,11 @@ use Rattle.ff_gc.proofs.Retaining.{Retains, bytes_retained, safe_retained}
 use Rattle.ff_gc.specs.Collector.{CollectorView}
 use Rattle.ff_gc.specs.Running.{IsLive}
 use Rattle.ff_gc.specs.Steps.{Makes}
-use Rattle.ff_gc.specs.World.{IsReady, Keeps, SamePages, World, mapped_bytes}
+use Rattle.ff_gc.specs.World.{IsCollectorReady, Keeps, SamePages, World, mapped_bytes}
 use Rattle.ff_gc.specs.declared.counts.OperationKind.{OperationKind}
 
 -- an operation of the flash that seals nothing but copies and loses no mapped page
-pub operated : (old new : World) (kind : OperationKind) (stop : Option FlashStop) → IsReady old
+pub operated : (old new : World) (kind : OperationKind) (stop : Option FlashStop) → IsCollectorReady old
     → Retains old.places old.flash.cells new.flash.cells → Makes kind old stop new
     → new.gc.per_block ≡ old.gc.per_block → length new.table.blocks ≡ length old.table.blocks
     → new.table.per_block ≡ old.table.per_block → new.places ≡ old.places
@@ -67,9 +67,9 @@ same_changed w gc block change per = record {
 }
 
 pub ready_changed : (w : World) (gc : CollectorView) (block : ℕ) (change : BlockEntry → BlockEntry)
-    → gc.per_block ≡ w.gc.per_block → IsReady w
+    → gc.per_block ≡ w.gc.per_block → IsCollectorReady w
     → IsLive gc w.flash.cells (changed_at w.table block change) w.places
-    → IsReady (changed_world w gc block change)
+    → IsCollectorReady (changed_world w gc block change)
 ready_changed w gc block change per ready live =
     let blocks : length (changed_at w.table block change).blocks ≡ length w.table.blocks =
     length-changed_at w.table block change in

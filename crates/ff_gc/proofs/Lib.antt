@@ -1,4 +1,5 @@
 pub mod Begun
+pub mod Committed
 pub mod Counting
 pub mod Emptied
 pub mod Falling
@@ -9,5 +10,7 @@ pub mod PageSeals
 pub mod Retaining
 pub mod Stepping
 pub mod Switched
+pub mod SwitchedCounts
+pub mod Switching
 pub mod Tables
 pub mod Takings

@@ -28,7 +28,7 @@ use Rattle.ff_gc.specs.Collector.{CollectorView}
 use Rattle.ff_gc.specs.Originals.{IsNext, spare_in}
 use Rattle.ff_gc.specs.Running.{AreBlocks, AreCopies, HasStale, HasStaleBeside, IsAt, IsInHand, IsLive, IsProgramming, IsReading, IsTabled}
 use Rattle.ff_gc.specs.Steps.{ProgramsCopy, ReadsPage, next_place}
-use Rattle.ff_gc.specs.World.{IsReady, Keeps, World}
+use Rattle.ff_gc.specs.World.{IsCollectorReady, Keeps, World}
 use Rattle.ff_gc.specs.declared.collector.GcStep.{GcStep}
 use Rattle.ff_gc.specs.declared.counts.OperationKind.TheVariants.{Read, Program}
 use Rattle.ff_gc.specs.declared.phase.Job.{Job}
@@ -40,7 +40,7 @@ pub same_page : (one other : PageNo) → one.0 ≡ other.0 → one ≡ other
 same_page one other same = ap (λ (n : ℕ). let page : PageNo = record { 0 = n } in page) same
 
 -- what holds in a phase that is known
-pub at_phase : (w : World) (phase : Phase) → IsReady w → w.gc.phase ≡ phase
+pub at_phase : (w : World) (phase : Phase) → IsCollectorReady w → w.gc.phase ≡ phase
     → IsAt w.gc w.flash.cells w.table w.places phase
 at_phase w phase ready is = subst (λ p. IsAt w.gc w.flash.cells w.table w.places p) is ready.live.phase
 
@@ -94,7 +94,7 @@ stale_beside per moves places job original stale next = record {
 
 -- a page of the victim is read
 pub reads_kept : (old new : World) (job : Job) (original : Original)
-    (result : Result GcStep FlashStop) → IsReady old → old.gc.phase ≡ Reading job
+    (result : Result GcStep FlashStop) → IsCollectorReady old → old.gc.phase ≡ Reading job
     → IsNext old.gc.per_block old.places job original → ReadsPage old job original result new
     → Keeps old new
 reads_kept old new job original (Ok step) ready phase next r =
@@ -233,7 +233,7 @@ pub record IsPlaceOfCopy (w : World) (job : Job) (at : ℕ) : Type 0 where
   pub within : at < length w.flash.cells
   pub blank : cell_at w.flash.cells at ≡ erased
 
-pub place_of_copy : (w : World) (job : Job) (at : ℕ) → IsReady w → AreBlocks w.table job
+pub place_of_copy : (w : World) (job : Job) (at : ℕ) → IsCollectorReady w → AreBlocks w.table job
     → (block_at w.table job.into.0).next < w.gc.per_block
     → at ≡ next_place w.gc.per_block w.table job → IsPlaceOfCopy w job at
 place_of_copy w job at ready b small is =
@@ -251,7 +251,7 @@ place_of_copy w job at ready b small is =
     }
 
 advanced_tabled : (old new : World) (job : Job) (at : ℕ) (bytes : List ℕ) (spare : Spare)
-    (result : Result (Unit {0}) FlashStop) → IsReady old → AreBlocks old.table job
+    (result : Result (Unit {0}) FlashStop) → IsCollectorReady old → AreBlocks old.table job
     → IsPlaceOfCopy old job at → Programs old.flash.cells at bytes spare result new.flash.cells
     → IsTabled old.gc.per_block (changed_at old.table job.into.0 (advanced old.table.per_block)) new.flash.cells old.places
 advanced_tabled old new job at bytes spare result ready b place programs =
@@ -270,7 +270,7 @@ keeps_sealed cells new at bytes spare result blank programs a x own is =
 
 -- the copy of a page is programmed
 pub programs_kept : (old new : World) (job : Job) (original : Original)
-    (result : Result GcStep FlashStop) → IsReady old → old.gc.phase ≡ Programming job original
+    (result : Result GcStep FlashStop) → IsCollectorReady old → old.gc.phase ≡ Programming job original
     → (block_at old.table job.into.0).next < old.gc.per_block
     → ProgramsCopy old job original result new → Keeps old new
 programs_kept old new job original (Ok step) ready phase small r =

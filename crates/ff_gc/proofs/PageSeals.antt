@@ -26,7 +26,7 @@ use Rattle.ff_gc.specs.Collector.{CollectorView}
 use Rattle.ff_gc.specs.Originals.{IsAfter, move_to, past, spare_in}
 use Rattle.ff_gc.specs.Running.{AreCopies, HasStale, HasStaleBeside, IsAt, IsCopy, IsLive, IsReading, IsSealing, IsTabled}
 use Rattle.ff_gc.specs.Steps.{SealsCopy}
-use Rattle.ff_gc.specs.World.{IsReady, Keeps, World}
+use Rattle.ff_gc.specs.World.{IsCollectorReady, Keeps, World}
 use Rattle.ff_gc.specs.declared.collector.GcStep.{GcStep}
 use Rattle.ff_gc.specs.declared.counts.OperationKind.TheVariants.{Seal}
 use Rattle.ff_gc.specs.declared.phase.Job.{Job}
@@ -186,7 +186,7 @@ reading_after per moves bytes cells table places job original at some s sealing 
 
 -- the copy of a page is sealed
 pub seals_kept : (old new : World) (job : Job) (original : Original) (at : Ppn)
-    (result : Result GcStep FlashStop) → IsReady old → old.gc.phase ≡ Sealing job original at
+    (result : Result GcStep FlashStop) → IsCollectorReady old → old.gc.phase ≡ Sealing job original at
     → SealsCopy old job original at result new → Keeps old new
 seals_kept old new job original at (Ok step) ready phase r =
     let sealing = at_phase old (Sealing job original at) ready phase in

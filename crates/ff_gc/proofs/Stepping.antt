@@ -10,7 +10,7 @@ use Rattle.ff_gc.proofs.Emptied.{emptying_is, emptying_ready, erases_kept, given
 use Rattle.ff_gc.proofs.Keeping.{keeps_after, same_changed}
 use Rattle.ff_gc.proofs.PageCopies.{at_phase, programs_kept, reads_kept}
 use Rattle.ff_gc.proofs.PageSeals.{seals_kept}
-use Rattle.ff_gc.proofs.Switched.{commits_kept}
+use Rattle.ff_gc.proofs.Committed.{commits_kept}
 use Rattle.ff_gc.specs.Originals.{IsAllSeen, IsNext}
 use Rattle.ff_gc.specs.Steps.{
   Begins,
@@ -30,7 +30,7 @@ use Rattle.ff_gc.specs.Steps.{
   programs,
   reads,
 }
-use Rattle.ff_gc.specs.World.{IsReady, Keeps, World}
+use Rattle.ff_gc.specs.World.{IsCollectorReady, Keeps, World}
 use Rattle.ff_gc.specs.declared.collector.GcStep.{GcStep}
 use Rattle.ff_gc.specs.declared.collector.GcStep.TheVariants.{Erased, Aborted}
 use Rattle.ff_gc.specs.declared.phase.Job.{Job}
@@ -46,7 +46,7 @@ not_all_seen per places job original next all =
     let unseen = next.unseen in
     omega arith
 
-nothing_kept : (w : World) → IsReady w → Keeps w w
+nothing_kept : (w : World) → IsCollectorReady w → Keeps w w
 nothing_kept w ready = record {
   same = record {
     bytes = λ page. refl;
@@ -61,7 +61,7 @@ nothing_kept w ready = record {
   live = λ on. ready.live;
 }
 
-reads_next_kept : (old new : World) (job : Job) (result : Result GcStep FlashStop) → IsReady old
+reads_next_kept : (old new : World) (job : Job) (result : Result GcStep FlashStop) → IsCollectorReady old
     → old.gc.phase ≡ Reading job → ReadsNext old job result new → Keeps old new
 reads_next_kept old new job result ready phase (reads original next r) =
     reads_kept old new job original result ready phase next r
@@ -70,7 +70,7 @@ reads_next_kept old new job result ready phase (none all r) =
     (record { reading = at_phase old (Reading job) ready phase; all_seen = all }) r
 
 programs_next_kept : (old new : World) (job : Job) (original : Original)
-    (result : Result GcStep FlashStop) → IsReady old → old.gc.phase ≡ Programming job original
+    (result : Result GcStep FlashStop) → IsCollectorReady old → old.gc.phase ≡ Programming job original
     → ProgramsNext old job original result new → Keeps old new
 programs_next_kept old new job original result ready phase (programs small r) =
     programs_kept old new job original result ready phase small r
@@ -81,7 +81,7 @@ programs_next_kept old new job original result ready phase (full whole r) =
     (given_up_is old job original ready phase) r)
 
 begins_kept : (old new : World) (result : Result GcStep FlashStop) → IsTableSound old.table
-    → IsReady old → old.gc.phase ≡ Idle → Begins old result new → Keeps old new
+    → IsCollectorReady old → old.gc.phase ≡ Idle → Begins old result new → Keeps old new
 begins_kept old new result sound ready phase (idle all is same) =
     subst (λ (w : World). Keeps old w) (sym same) (nothing_kept old ready)
 begins_kept old new result sound ready phase (empty victim v unmapped r) =
@@ -99,7 +99,7 @@ begins_kept old new result sound ready phase (mapped victim into v some least r)
     (begun_ready old victim into sound ready phase v.has.full least.has (omega arith)) refl r)
 
 step_kept : (phase : Phase) (old new : World) (result : Result GcStep FlashStop)
-    → IsTableSound old.table → IsReady old → old.gc.phase ≡ phase → IsStepAt phase old result new
+    → IsTableSound old.table → IsCollectorReady old → old.gc.phase ≡ phase → IsStepAt phase old result new
     → Keeps old new
 step_kept Idle old new result sound ready phase r = begins_kept old new result sound ready phase r
 step_kept (Reading job) old new result sound ready phase r = reads_next_kept old new job result ready phase r
@@ -116,7 +116,7 @@ step_kept (Aborting block) old new result sound ready phase r =
 
 -- every step keeps what it needs
 pub steps_kept : (old new : World) (result : Result GcStep FlashStop) → IsTableSound old.table
-    → IsReady old → IsStep old result new → Keeps old new
+    → IsCollectorReady old → IsStep old result new → Keeps old new
 steps_kept old new result sound ready step = step_kept old.gc.phase old new result sound ready refl step
 
 -- the step in a phase that is known

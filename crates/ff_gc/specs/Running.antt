@@ -139,7 +139,7 @@ pub record IsEmptying (table : TableView) (block : Block) : Type 0 where
   pub none_held : NoBlock (IsInState table.blocks Held)
 
 -- no collection runs: a block is erased
-pub record IsIdle (table : TableView) : Type 0 where
+pub record IsCollectorIdle (table : TableView) : Type 0 where
   pub none_held : NoBlock (IsInState table.blocks Held)
   pub none_waits : NoBlock (IsInState table.blocks Waiting)
   pub spare : HasBlock table Erased
@@ -168,7 +168,7 @@ pub record IsCommitting (per_block : ℕ) (moves : List Move) (cells : List Cell
 
 -- what holds in the collector's phase
 abbrev pub IsAt : CollectorView → List Cell → TableView → MapView → Phase → Type 0
-IsAt gc cells table places Idle = IsIdle table
+IsAt gc cells table places Idle = IsCollectorIdle table
 IsAt gc cells table places (Reading job) = IsReading gc.per_block gc.moves cells table places job
 IsAt gc cells table places (Programming job original) =
     IsProgramming gc.per_block gc.moves gc.bytes cells table places job original

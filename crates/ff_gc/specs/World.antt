@@ -58,7 +58,7 @@ IsSafeWorld w =
     IsSafe None (length w.table.blocks) w.gc.per_block w.flash.operations w.flash.cells w.places
 
 -- what a step needs, with the power on
-pub record IsReady (w : World) : Type 0 where
+pub record IsCollectorReady (w : World) : Type 0 where
   pub on : w.flash.on ≡ true
   pub fits : Fits w
   pub safe : IsSafeWorld w

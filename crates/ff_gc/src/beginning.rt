@@ -8,7 +8,7 @@ ghost use Rattle.ff_gc.specs.Counts.{total_of};
 ghost use Rattle.ff_gc.specs.Running.{HasBlock};
 ghost use Rattle.ff_gc.specs.Steps.{Begins};
 ghost use Rattle.ff_gc.specs.declared.phase.Phase.TheVariants.{Idle};
-ghost use Rattle.ff_gc.specs.World.{IsReady, world_of};
+ghost use Rattle.ff_gc.specs.World.{IsCollectorReady, world_of};
 
 use crate::collector::{Collector, GcStep};
 use crate::counts::Counts;
@@ -27,7 +27,7 @@ impl Collector {
         map: &mut PageMap,
         counts: &mut Counts,
     ) -> Result<GcStep, FlashStop>
-        requires ready { IsReady
+        requires ready { IsCollectorReady
             (world_of self.old (F.state flash.old) space.old map.old counts.old) }
         requires life { HasOperationsLeft (F.state flash.old) }
         requires counted { total_of counts.old < 2 ^ 63 }
@@ -49,7 +49,7 @@ impl Collector {
         counts: &mut Counts,
         victim: Block,
     ) -> Result<GcStep, FlashStop>
-        requires ready { IsReady
+        requires ready { IsCollectorReady
             (world_of self.old (F.state flash.old) space.old map.old counts.old) }
         requires life { HasOperationsLeft (F.state flash.old) }
         requires counted { total_of counts.old < 2 ^ 63 }

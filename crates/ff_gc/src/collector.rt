@@ -5,7 +5,7 @@ ghost use Rattle.ff_flash.specs.FlashState.{HasOperationsLeft};
 ghost use Rattle.ff_gc.specs.Collector.{is_busy, mounted_phase, new_collector};
 ghost use Rattle.ff_gc.specs.Counts.{total_of};
 ghost use Rattle.ff_gc.specs.Steps.{IsStep};
-ghost use Rattle.ff_gc.specs.World.{IsReady, Keeps, world_of};
+ghost use Rattle.ff_gc.specs.World.{IsCollectorReady, Keeps, world_of};
 
 use crate::counts::Counts;
 use crate::phase::Phase;
@@ -95,7 +95,8 @@ impl Collector {
         counts: &mut Counts,
     ) -> Result<GcStep, FlashStop>
         requires ready { (F.state flash.old).on ≡ true
-            → IsReady (world_of self.old (F.state flash.old) space.old map.old counts.old) }
+            → IsCollectorReady
+            (world_of self.old (F.state flash.old) space.old map.old counts.old) }
         requires life { HasOperationsLeft (F.state flash.old) }
         requires counted { total_of counts.old < 2 ^ 63 }
         ensures off { (F.state flash.old).on ≡ false → (result ≡ Err Off)
@@ -122,7 +123,7 @@ impl Collector {
         map: &mut PageMap,
         counts: &mut Counts,
     ) -> Result<GcStep, FlashStop>
-        requires ready { IsReady
+        requires ready { IsCollectorReady
             (world_of self.old (F.state flash.old) space.old map.old counts.old) }
         requires life { HasOperationsLeft (F.state flash.old) }
         requires counted { total_of counts.old < 2 ^ 63 }

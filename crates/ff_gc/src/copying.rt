@@ -7,7 +7,7 @@ ghost use Rattle.ff_flash.specs.FlashState.{HasOperationsLeft};
 ghost use Rattle.ff_gc.specs.Counts.{total_of};
 ghost use Rattle.ff_gc.specs.Steps.{ProgramsCopy, ProgramsNext, ReadsNext, ReadsPage, SealsCopy, next_place};
 ghost use Rattle.ff_gc.specs.declared.phase.Phase.TheVariants.{Programming, Reading};
-ghost use Rattle.ff_gc.specs.World.{IsReady, world_of};
+ghost use Rattle.ff_gc.specs.World.{IsCollectorReady, world_of};
 
 use crate::collector::{Collector, GcStep};
 use crate::counts::{Counts, OperationKind};
@@ -28,7 +28,7 @@ impl Collector {
         counts: &mut Counts,
         job: Job,
     ) -> Result<GcStep, FlashStop>
-        requires ready { IsReady
+        requires ready { IsCollectorReady
             (world_of self.old (F.state flash.old) space.old map.old counts.old) }
         requires life { HasOperationsLeft (F.state flash.old) }
         requires counted { total_of counts.old < 2 ^ 63 }
@@ -82,7 +82,7 @@ impl Collector {
         job: Job,
         original: Original,
     ) -> Result<GcStep, FlashStop>
-        requires ready { IsReady
+        requires ready { IsCollectorReady
             (world_of self.old (F.state flash.old) space.old map.now counts.old) }
         requires life { HasOperationsLeft (F.state flash.old) }
         requires counted { total_of counts.old < 2 ^ 63 }

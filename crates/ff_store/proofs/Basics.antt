@@ -17,7 +17,7 @@ use Rattle.ff_gc.specs.Cells.{AreSealed, IsSafe}
 use Rattle.ff_gc.specs.Collector.{is_busy}
 use Rattle.ff_gc.specs.Counts.{total_of}
 use Rattle.ff_gc.specs.Steps.{IsStep, Makes, Takes, made, rested}
-use Rattle.ff_gc.specs.World.{Fits, IsReady, Keeps, World}
+use Rattle.ff_gc.specs.World.{Fits, IsCollectorReady, Keeps, World}
 use Rattle.ff_gc.specs.declared.collector.GcStep.{GcStep}
 use Rattle.ff_gc.specs.declared.counts.Counts.{Counts}
 use Rattle.ff_gc.specs.declared.counts.OperationKind.{OperationKind}
@@ -38,7 +38,7 @@ safe_running s sound running = record {
 }
 
 -- the collector can make a step
-pub ready_in : (s : PageStoreView) → IsStoreSound s → s.world.flash.on ≡ true → IsReady s.world
+pub ready_in : (s : PageStoreView) → IsStoreSound s → s.world.flash.on ≡ true → IsCollectorReady s.world
 ready_in s sound on = record {
   on = on;
   fits = sound.fits;
@@ -63,15 +63,18 @@ pub waiting_some : (s : PageStoreView) (waits : Option Pending) (p : Pending) �
 waiting_some s waits p is waiting = subst (λ w. IsWaiting s w) is waiting
 
 -- operations are counted
+counted_more : (s : PageStoreView) (flash : FlashState) (counts : Counts) (stop : Option FlashStop) → IsStoreSound s
+    → s.world.flash.on ≡ true → Operates s.world.flash stop flash → total_of counts ≡ total_of s.world.counts + 1
+    → s.opened + total_of counts ≡ flash.operations
+counted_more s flash counts stop sound on operates more =
+    let rise = operates.power.counted on in let counted = sound.counted in omega arith
+
 pub counted_after : (s : PageStoreView) (new : World) (kind : OperationKind) (stop : Option FlashStop) → IsStoreSound s
     → s.world.flash.on ≡ true → Makes kind s.world stop new
     → s.opened + total_of new.counts ≡ new.flash.operations
 counted_after s new kind stop sound on m =
-    let more = total_begun kind s.world.counts in
-    let same : total_of new.counts ≡ total_of s.world.counts + 1 = ap (λ (c : Counts). total_of c) m.counts ∙ more in
-    let rise = m.flash.power.counted on in
-    let counted = sound.counted in
-    omega arith
+    counted_more s new.flash new.counts stop sound on m.flash
+    (ap (λ (c : Counts). total_of c) m.counts ∙ total_begun kind s.world.counts)
 
 counted_takes : (s : PageStoreView) (new : World) (stop : Option FlashStop) → IsStoreSound s
     → s.world.flash.on ≡ true → Takes s.world stop new → s.opened + total_of new.counts ≡ new.flash.operations
@@ -204,15 +207,15 @@ pending_same s flash counts (Some p) cells waiting = record {
 }
 
 -- a page is read
-pub read_sound : (s : PageStoreView) (flash : FlashState) (counts : Counts) (kind : OperationKind)
-    (stop : Option FlashStop) → IsStoreSound s → s.world.flash.on ≡ true → flash.cells ≡ s.world.flash.cells
-    → Makes kind s.world stop (record s.world { flash = flash; counts = counts })
+pub read_sound : (s : PageStoreView) (flash : FlashState) (counts : Counts) (stop : Option FlashStop)
+    → IsStoreSound s → s.world.flash.on ≡ true → flash.cells ≡ s.world.flash.cells
+    → Operates s.world.flash stop flash → total_of counts ≡ total_of s.world.counts + 1
     → IsStoreSound (with_flash s flash counts)
-read_sound s flash counts kind stop sound on cells m =
-    let rise = operations_rise s.world.flash flash stop m.flash in
+read_sound s flash counts stop sound on cells operates more =
+    let rise = operations_rise s.world.flash flash stop operates in
     let drawn = sound.always.safe.drawn in
     record {
-      fits = fits_operated s.world flash counts stop sound.fits m.flash (ap (λ (c : List Cell). length c) cells);
+      fits = fits_operated s.world flash counts stop sound.fits operates (ap (λ (c : List Cell). length c) cells);
       always = record {
         safe = record {
           sealed_cells = rw cells
@@ -234,7 +237,7 @@ read_sound s flash counts kind stop sound on cells m =
             waiting = pending_same s flash counts s.waits cells running.waiting;
           });
       owed = sound.owed;
-      counted = counted_after s (record s.world { flash = flash; counts = counts }) kind stop sound on m;
+      counted = counted_more s flash counts stop sound on operates more;
     }
 
 -- the power is turned off

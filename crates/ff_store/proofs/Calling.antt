@@ -29,7 +29,7 @@ use Rattle.ff_gc.specs.declared.counts.OperationKind.TheVariants.{Program, Read,
 use Rattle.ff_gc.specs.declared.phase.Phase.{Phase}
 use Rattle.ff_gc.specs.declared.phase.Phase.TheVariants.{Idle, Programming, Reading, Sealing, Commit, Erasing, Aborting}
 use Rattle.ff_store.proofs.Basics.{collected_call, collected_same, ready_in}
-use Rattle.ff_store.proofs.Flushing.{target_of}
+use Rattle.ff_store.proofs.Targets.{target_of}
 use Rattle.ff_store.proofs.Pigeons.{has_victim}
 use Rattle.ff_store.proofs.Remaining.{left_falls}
 use Rattle.ff_store.proofs.Settled.{old_within}

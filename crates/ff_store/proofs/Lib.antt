@@ -1,12 +1,14 @@
 pub mod Around
 pub mod Basics
+pub mod Bests
 pub mod Calling
-pub mod Flushing
 pub mod Fresh
 pub mod Mounting
+pub mod PagePrograms
 pub mod Pigeons
 pub mod Remaining
 pub mod Rooms
 pub mod Settled
 pub mod Settling
+pub mod Targets
 pub mod Written

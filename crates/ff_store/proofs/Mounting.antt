@@ -1,19 +1,25 @@
--- What a mount finds of a store's cells: a covered block, and the newest version of each page.
-use Rattle.std.proofs.Common.{◌≡◌, ◌≢◌, ◌≤◌, ◌/◌, ℕ, zero, suc, true, cond, eqb, ltb, List, [], ◌∷◌, length, Option, None, Some, inl, inr, refl, sym, ap, subst, ◌∙◌, arith}
+-- What a mount finds of a store's cells: a covered block, and the best version of each page.
+use Rattle.std.proofs.Common.{◌≡◌, ◌≢◌, ◌<◌, ◌≤◌, ◌/◌, ℕ, true, List, length, get_or, set, Option, None, Some, inl, inr, refl, sym, ap, subst, ◌∙◌, arith}
 use Rattle.std.specs.Prelude.{is_some}
-use Rattle.std.proofs.lemmas.Bool.{cases_Bool, eq-eqb, eqb-true, ltb-false, ltb-true}
+use Rattle.std.specs.List.{range_with_len}
+use Rattle.std.proofs.lemmas.Bool.{cases_eq, cases_lt}
+use Rattle.std.proofs.lemmas.List.{get_or-set_other, get_or-set_same, length-set}
+use Rattle.std.proofs.lemmas.List.FromFn.{get_or-range_with_len, length-range_with_len}
 use Rattle.std.proofs.lemmas.Option.{none-some, same_Some}
 use Rattle.ff_base.specs.declared.numbers.PageNo.{PageNo}
-use Rattle.ff_flash.specs.Cells.{Cell, cell_at, cell_bytes, closed, erased, sealed, spoiled}
+use Rattle.ff_flash.specs.Cells.{Cell, cell_at, cell_bytes, sealed}
 use Rattle.ff_flash.specs.declared.spare.Spare.{Spare}
 use Rattle.ff_map.specs.PageMap.{mapping_of}
 use Rattle.ff_map.specs.declared.places.Mapping.{Mapping}
-use Rattle.ff_gc.proofs.PageCopies.{same_page}
+use Rattle.ff_gc.proofs.Counting.{count_fewer}
 use Rattle.ff_gc.specs.Cells.{HasCovered, IsUnmapped}
 use Rattle.ff_gc.specs.World.{mapped_bytes, page_bytes}
-use Rattle.ff_store.specs.Best.{Version, best, bytes_or_zeros, newer, sealed_as}
-use Rattle.ff_store.specs.PageStore.{IsAlways, IsElsewhere, PageStoreView, unmapped_of}
-use Rattle.ff_store.specs.Pages.{is_mapped}
+use Rattle.ff_store.proofs.Bests.{IsBest, best_is, sealed_found, sealed_holds}
+use Rattle.ff_store.proofs.Settling.{mapped_count_with}
+use Rattle.ff_store.specs.Best.{Version, best, bytes_or_zeros, mapped_version, sealed_count}
+use Rattle.ff_store.specs.PageStore.{IsAlways, IsElsewhere, PageStoreView, pages_with, spare_of, unmapped_of}
+use Rattle.ff_store.specs.Pages.{is_mapped, page_capacity}
+use Rattle.ff_store.specs.Recoverable.{IsBestOfPending, IsOutdated, IsRecoverable, mapped_is_best, programmed_is_best}
 use Rattle.ff_store.specs.declared.pending.Pending.{Pending}
 
 unknown_elsewhere : (waits : Option Pending) (per block a : ℕ) (spare : Spare) → IsElsewhere per waits block
@@ -42,145 +48,193 @@ covered s always = record {
   ];
 }
 
--- what a best version is: that of a cell, and no cell's is newer
-pub record IsNewest (cells : List Cell) (page : PageNo) (v : Version) : Type 0 where
-  pub at : ℕ
-  pub is : sealed_as page (cell_at cells at) ≡ Some v
-  pub newest : (a : ℕ) (w : Version) → sealed_as page (cell_at cells a) ≡ Some w → w.number ≤ v.number
-
-abbrev pub IsBest : List Cell → PageNo → Option Version → Type 0
-IsBest cells page None = (a : ℕ) → sealed_as page (cell_at cells a) ≡ None
-IsBest cells page (Some v) = IsNewest cells page v
-
-none_more : (cell : Cell) (later : List Cell) (page : PageNo) → sealed_as page cell ≡ None → IsBest later page None
-    → (a : ℕ) → sealed_as page (cell_at (cell ∷ later) a) ≡ None
-none_more cell later page is rest zero = is
-none_more cell later page is rest (suc a) = rest a
-
--- no cell is newer, where the first isn't
-newest_more : (cell : Cell) (later : List Cell) (page : PageNo) (most : ℕ)
-    → ((w : Version) → sealed_as page cell ≡ Some w → w.number ≤ most)
-    → ((a : ℕ) (w : Version) → sealed_as page (cell_at later a) ≡ Some w → w.number ≤ most)
-    → (a : ℕ) (w : Version) → sealed_as page (cell_at (cell ∷ later) a) ≡ Some w → w.number ≤ most
-newest_more cell later page most first rest zero w there = first w there
-newest_more cell later page most first rest (suc a) w there = rest a w there
-
-first_at_most : (page : PageNo) (cell : Cell) (v : Version) (most : ℕ) → sealed_as page cell ≡ Some v → v.number ≤ most
-    → (w : Version) → sealed_as page cell ≡ Some w → w.number ≤ most
-first_at_most page cell v most is below w there =
-    let n = ap (λ (x : Version). x.number) (same_Some v w (sym is ∙ there)) in omega arith
-
-best_more : (cell : Cell) (later : List Cell) (page : PageNo) (first rest : Option Version) → sealed_as page cell ≡ first
-    → IsBest later page rest → IsBest (cell ∷ later) page (newer first rest)
-best_more cell later page None None is b = none_more cell later page is b
-best_more cell later page None (Some v) is b = record {
-  at = suc b.at;
-  is = b.is;
-  newest = newest_more cell later page v.number (λ w there. absurd (none-some w (sym is ∙ there))) b.newest;
-}
-best_more cell later page (Some v) None is b = record {
-  at = 0;
-  is = is;
-  newest = newest_more cell later page v.number (first_at_most page cell v v.number is (omega arith))
-      (λ a w there. absurd (none-some w (sym (b a) ∙ there)));
-}
-best_more cell later page (Some v) (Some u) is b = elim (cases_Bool (ltb v.number u.number)) [
-  | inl less ↦
-      let below = ltb-true v.number u.number less in
-      let chosen : newer (Some v) (Some u) ≡ Some u = rw less refl in
-      subst (λ o. IsBest (cell ∷ later) page o) (sym chosen) (record {
-        at = suc b.at;
-        is = b.is;
-        newest = newest_more cell later page u.number (first_at_most page cell v u.number is (omega arith)) b.newest;
-      })
-  | inr more ↦
-      let above = ltb-false v.number u.number more in
-      let chosen : newer (Some v) (Some u) ≡ Some v = rw more refl in
-      subst (λ o. IsBest (cell ∷ later) page o) (sym chosen) (record {
-        at = 0;
-        is = is;
-        newest = newest_more cell later page v.number (first_at_most page cell v v.number is (omega arith))
-            (λ a w there. (let n = b.newest a w there in omega arith));
-      })
-]
-
-pub best_is : (cells : List Cell) (page : PageNo) → IsBest cells page (best cells page)
-best_is [] page = λ a. refl
-best_is (cell ∷ later) page =
-    best_more cell later page (sealed_as page cell) (best later page) refl (best_is later page)
-
--- what a cell holds sealed of a page
-sealed_found : (page : PageNo) (c : Cell) (v : Version) → sealed_as page c ≡ Some v
-    → c ≡ sealed v.bytes (record { page = page; version = v.number })
-sealed_found page erased v is = absurd (none-some v is)
-sealed_found page spoiled v is = absurd (none-some v is)
-sealed_found page (closed bytes spare) v is = absurd (none-some v is)
-sealed_found page (sealed bytes spare) v is = elim (cases_Bool (eqb spare.page.0 page.0)) [
-  | inl hit ↦
-      let own : Version = record { number = spare.version; bytes = bytes } in
-      let there : Some own ≡ Some v = rw hit at is in
-      let same : own ≡ v = same_Some own v there in
-      let pages : spare.page ≡ page = same_page spare.page page (eqb-true spare.page.0 page.0 hit) in
-      ap (λ q. sealed bytes (record { page = q; version = spare.version })) pages
-      ∙ ap (λ (x : Version). sealed x.bytes (record { page = page; version = x.number })) same
-  | inr miss ↦ (let there : None ≡ Some v = rw miss at is in absurd (none-some v there))
-]
-
-sealed_holds : (page : PageNo) (c : Cell) (bytes : List ℕ) (version : ℕ)
-    → c ≡ sealed bytes (record { page = page; version = version })
-    → sealed_as page c ≡ Some (record { number = version; bytes = bytes })
-sealed_holds page c bytes version is =
-    let hit : eqb page.0 page.0 ≡ true = eq-eqb page.0 page.0 refl in
-    let own : Version = record { number = version; bytes = bytes } in
-    let other : Option Version = None in
-    ap (λ x. sealed_as page x) is ∙ ap (λ b. cond b (Some own) other) hit
-
 -- a page that doesn't wait is known to the map, where it is sealed
 not_unknown : (waits : Option Pending) (a : ℕ) (spare : Spare) (page : PageNo) → spare.page ≡ page
     → ((p : Pending) → waits ≡ Some p → p.page ≢ page) → IsUnmapped (unmapped_of waits) a spare → ⊥
 not_unknown None a spare page same other is = is
 not_unknown (Some p) a spare page same other is = other p refl (sym (ap (λ (x : Spare). x.page) is.1) ∙ same)
 
-best_by : (s : PageStoreView) (page : PageNo) → IsAlways s → ((p : Pending) → s.waits ≡ Some p → p.page ≢ page)
-    → (o : Option Mapping) (b : Option Version) → mapping_of s.world.places page ≡ o → IsBest s.world.flash.cells page b
-    → (bytes_or_zeros b ≡ mapped_bytes s.world.flash.cells o) × (is_some o ≡ is_some b)
-best_by s page always other None None is none = (refl, refl)
-best_by s page always other None (Some v) is v_is =
-    let cell = sealed_found page _ v v_is.is in
-    elim (always.safe.mapped.known v_is.at v.bytes _ cell) [
-      | inl newest ↦ absurd (none-some newest.mapping (sym is ∙ newest.is))
-      | inr unknown ↦ absurd (not_unknown s.waits v_is.at _ page refl other unknown)
-    ]
-best_by s page always other (Some m) None is none =
-    let placed = sealed_holds page _ _ m.version (always.safe.mapped.placed page m is) in
-    absurd (none-some _ (sym (none m.at.0) ∙ placed))
-best_by s page always other (Some m) (Some v) is v_is =
+-- the cell of a mapping is no newer than the best version, and has the same bytes where it is as new
+mapped_same : (s : PageStoreView) (page : PageNo) (m : Mapping) (v : Version) → IsAlways s
+    → mapping_of s.world.places page ≡ Some m → IsBest s.world.flash.cells page (Some v) → v.number ≤ m.version
+    → Some v ≡ mapped_version s.world.flash.cells (Some m)
+mapped_same s page m v always is v_is most =
     let cells = s.world.flash.cells in
     let bytes = cell_bytes (cell_at cells m.at.0) in
     let placed = always.safe.mapped.placed page m is in
-    let most = v_is.newest m.at.0 (record { number = m.version; bytes = bytes }) (sealed_holds page _ bytes m.version placed) in
-    let cell = sealed_found page _ v v_is.is in
-    elim (always.safe.mapped.known v_is.at v.bytes _ cell) [
+    let least = v_is.newest m.at.0 (record { number = m.version; bytes = bytes }) (sealed_holds page _ bytes m.version placed) in
+    let same : v.number ≡ m.version = omega arith in
+    let cell_now = sealed_found page _ v v_is.is
+    ∙ ap (λ n. sealed v.bytes (record { page = page; version = n })) same in
+    let alike = always.safe.sealed_cells.same v_is.at m.at.0 v.bytes bytes _ cell_now placed in
+    ap (λ n. let one : Version = record { number = n; bytes = v.bytes } in Some one) same
+    ∙ ap (λ (x : List ℕ). let one : Version = record { number = m.version; bytes = x } in Some one) alike
+
+mapped_not_none : (s : PageStoreView) (page : PageNo) (m : Mapping) → IsAlways s → mapping_of s.world.places page ≡ Some m
+    → IsBest s.world.flash.cells page None → ⊥
+mapped_not_none s page m always is none =
+    none-some _ (sym (none m.at.0) ∙ sealed_holds page _ _ m.version (always.safe.mapped.placed page m is))
+
+best_by : (s : PageStoreView) (page : PageNo) → IsAlways s → ((p : Pending) → s.waits ≡ Some p → p.page ≢ page)
+    → (o : Option Mapping) (b : Option Version) → mapping_of s.world.places page ≡ o → IsBest s.world.flash.cells page b
+    → b ≡ mapped_version s.world.flash.cells o
+best_by s page always other None None is none = refl
+best_by s page always other None (Some v) is v_is =
+    elim (always.safe.mapped.known v_is.at v.bytes _ (sealed_found page _ v v_is.is)) [
+      | inl newest ↦ absurd (none-some newest.mapping (sym is ∙ newest.is))
+      | inr unknown ↦ absurd (not_unknown s.waits v_is.at _ page refl other unknown)
+    ]
+best_by s page always other (Some m) None is none = absurd (mapped_not_none s page m always is none)
+best_by s page always other (Some m) (Some v) is v_is =
+    elim (always.safe.mapped.known v_is.at v.bytes _ (sealed_found page _ v v_is.is)) [
       | inl newest ↦
           let mapping = same_Some newest.mapping m (sym newest.is ∙ is) in
-          let least = newest.newer in
-          let number = ap (λ (x : Mapping). x.version) mapping in
-          let same : v.number ≡ m.version = omega arith in
-          let cell_now = cell ∙ ap (λ n. sealed v.bytes (record { page = page; version = n })) same in
-          (always.safe.sealed_cells.same v_is.at m.at.0 v.bytes bytes _ cell_now placed, refl)
+          mapped_same s page m v always is v_is (subst (λ (x : Mapping). v.number ≤ x.version) mapping newest.newer)
       | inr unknown ↦ absurd (not_unknown s.waits v_is.at _ page refl other unknown)
     ]
 
--- the best version of a page that doesn't wait is the mapped one
+-- the best version of a page that doesn't wait is that of its mapping
+pub best_mapping : (s : PageStoreView) (page : PageNo) → IsAlways s → ((p : Pending) → s.waits ≡ Some p → p.page ≢ page)
+    → best s.world.flash.cells page ≡ mapped_version s.world.flash.cells (mapping_of s.world.places page)
+best_mapping s page always other =
+    best_by s page always other (mapping_of s.world.places page) (best s.world.flash.cells page) refl
+    (best_is s.world.flash.cells page)
+
+version_bytes : (cells : List Cell) (o : Option Mapping) → bytes_or_zeros (mapped_version cells o) ≡ mapped_bytes cells o
+version_bytes cells None = refl
+version_bytes cells (Some m) = refl
+
+version_some : (cells : List Cell) (o : Option Mapping) → is_some (mapped_version cells o) ≡ is_some o
+version_some cells None = refl
+version_some cells (Some m) = refl
+
+-- the bytes of its best version are those of its mapping, with zeros where there is none
 pub best_bytes : (s : PageStoreView) (page : PageNo) → IsAlways s → ((p : Pending) → s.waits ≡ Some p → p.page ≢ page)
     → bytes_or_zeros (best s.world.flash.cells page) ≡ page_bytes s.world page
 best_bytes s page always other =
-    (best_by s page always other (mapping_of s.world.places page) (best s.world.flash.cells page) refl
-    (best_is s.world.flash.cells page)).0
+    ap bytes_or_zeros (best_mapping s page always other)
+    ∙ version_bytes s.world.flash.cells (mapping_of s.world.places page)
 
 -- where none waits a page is mapped exactly where it has a best version
 pub best_mapped : (s : PageStoreView) (page : PageNo) → IsAlways s → s.waits ≡ None
     → is_mapped s.world.places page ≡ is_some (best s.world.flash.cells page)
 best_mapped s page always none =
-    (best_by s page always (λ p is. absurd (none-some p (sym none ∙ is))) (mapping_of s.world.places page)
-    (best s.world.flash.cells page) refl (best_is s.world.flash.cells page)).1
+    let best_now = best_mapping s page always (λ p is. absurd (none-some p (sym none ∙ is))) in
+    sym (ap (λ (o : Option Version). is_some o) best_now ∙ version_some s.world.flash.cells (mapping_of s.world.places page))
+
+unknown_is : (waits : Option Pending) (p : Pending) (a : ℕ) (spare : Spare) → waits ≡ Some p
+    → IsUnmapped (unmapped_of waits) a spare → IsUnmapped (unmapped_of (Some p)) a spare
+unknown_is waits p a spare is unknown = subst (λ w. IsUnmapped (unmapped_of w) a spare) is unknown
+
+-- each sealed cell of a page that isn't mapped is the one that the map may not know
+alone : (s : PageStoreView) (p : Pending) → IsAlways s → s.waits ≡ Some p → mapping_of s.world.places p.page ≡ None
+    → IsOutdated s.world.flash.cells p None
+alone s p always waits none a x spare is page = elim (always.safe.mapped.known a x spare is) [
+  | inl newest ↦
+      absurd (none-some newest.mapping (sym none ∙ ap (λ q. mapping_of s.world.places q) (sym page) ∙ newest.is))
+  | inr unknown ↦ (unknown_is s.waits p a spare waits unknown).0
+]
+
+-- the best version is at the programmed cell, where the map doesn't know it
+programmed_best : (s : PageStoreView) (p : Pending) (v : Version) (o : Option Mapping) → s.waits ≡ Some p
+    → best s.world.flash.cells p.page ≡ Some v → (v_is : IsBest s.world.flash.cells p.page (Some v))
+    → IsUnmapped (unmapped_of (Some p)) v_is.at (record { page = p.page; version = v.number })
+    → IsOutdated s.world.flash.cells p o → IsBestOfPending s.world.flash.cells p o
+programmed_best s p v o waits best_now v_is unknown outdated =
+    let number : v.number ≡ p.version = ap (λ (x : Spare). x.version) unknown.1 in
+    let found = sealed_found p.page _ v v_is.is in
+    let cell : cell_at s.world.flash.cells p.at.0 ≡ sealed v.bytes (spare_of p) =
+    ap (λ n. cell_at s.world.flash.cells n) (sym unknown.0)
+    ∙ found
+    ∙ ap (λ n. sealed v.bytes (record { page = p.page; version = n })) number in
+    programmed_is_best v.bytes cell
+    (best_now ∙ ap (λ n. let one : Version = record { number = n; bytes = v.bytes } in Some one) number) outdated
+
+pending_by : (s : PageStoreView) (p : Pending) → IsAlways s → s.waits ≡ Some p → (o : Option Mapping) (b : Option Version)
+    → mapping_of s.world.places p.page ≡ o → best s.world.flash.cells p.page ≡ b → IsBest s.world.flash.cells p.page b
+    → IsBestOfPending s.world.flash.cells p o
+pending_by s p always waits None None is best_now none = mapped_is_best best_now
+pending_by s p always waits None (Some v) is best_now v_is =
+    elim (always.safe.mapped.known v_is.at v.bytes _ (sealed_found p.page _ v v_is.is)) [
+      | inl newest ↦ absurd (none-some newest.mapping (sym is ∙ newest.is))
+      | inr unknown ↦
+          programmed_best s p v None waits best_now v_is (unknown_is s.waits p _ _ waits unknown) (alone s p always waits is)
+    ]
+pending_by s p always waits (Some m) None is best_now none = absurd (mapped_not_none s p.page m always is none)
+pending_by s p always waits (Some m) (Some v) is best_now v_is = elim (cases_lt m.version v.number) [
+  | inl less ↦ elim (always.safe.mapped.known v_is.at v.bytes _ (sealed_found p.page _ v v_is.is)) [
+    | inl newest ↦
+        let mapping = same_Some newest.mapping m (sym newest.is ∙ is) in
+        let most = subst (λ (x : Mapping). v.number ≤ x.version) mapping newest.newer in
+        absurd (omega arith)
+    | inr unknown ↦
+        let there = unknown_is s.waits p _ _ waits unknown in
+        let number : v.number ≡ p.version = ap (λ (x : Spare). x.version) there.1 in
+        programmed_best s p v (Some m) waits best_now v_is there (omega arith)
+  ]
+  | inr most ↦ mapped_is_best (best_now ∙ mapped_same s p.page m v always is v_is most)
+]
+
+-- the best version of the page that waits
+pub best_pending : (s : PageStoreView) (p : Pending) → IsAlways s → s.waits ≡ Some p
+    → IsBestOfPending s.world.flash.cells p (mapping_of s.world.places p.page)
+best_pending s p always waits =
+    pending_by s p always waits (mapping_of s.world.places p.page) (best s.world.flash.cells p.page) refl refl
+    (best_is s.world.flash.cells p.page)
+
+-- a page with a best version is mapped or waits
+some_best : (s : PageStoreView) (page : PageNo) → IsAlways s → ((p : Pending) → s.waits ≡ Some p → p.page ≢ page)
+    → is_some (best s.world.flash.cells page) ≡ true → is_some (mapping_of s.world.places page) ≡ true
+some_best s page always other has =
+    sym (version_some s.world.flash.cells (mapping_of s.world.places page))
+    ∙ ap (λ (o : Option Version). is_some o) (sym (best_mapping s page always other))
+    ∙ has
+
+number_is : (pages n : ℕ) → n < pages → get_or (range_with_len 0 pages) n pages ≡ n
+number_is pages n below = let is = get_or-range_with_len 0 pages n pages below in omega arith
+
+few_by : (s : PageStoreView) (waits : Option Pending) → s.waits ≡ waits → IsAlways s
+    → sealed_count (length s.world.places.pages) s.world.flash.cells ≤ pages_with s waits
+few_by s None none always =
+    let pages = length s.world.places.pages in
+    let sizes = length-range_with_len 0 pages in
+    count_fewer (λ n. is_some (best s.world.flash.cells (record { 0 = n }))) (λ (m : Option Mapping). is_some m)
+    (range_with_len 0 pages) s.world.places.pages pages None sizes
+    (λ n below has.
+    some_best s (record { 0 = n }) always (λ p is. absurd (none-some p (sym none ∙ is)))
+    (sym (ap (λ k. is_some (best s.world.flash.cells (record { 0 = k }))) (number_is pages n (omega arith))) ∙ has))
+few_by s (Some p) waits always =
+    let pages = length s.world.places.pages in
+    let m : Mapping = record { at = p.at; version = p.version } in
+    let in_range = always.in_range p waits in
+    let mapped = set s.world.places.pages p.page.0 (Some m) in
+    let counted = mapped_count_with s.world.places p.page m in_range in
+    let size = length-set s.world.places.pages p.page.0 (Some m) in
+    let sizes = length-range_with_len 0 pages in
+    let fewer = count_fewer (λ n. is_some (best s.world.flash.cells (record { 0 = n }))) (λ (m : Option Mapping). is_some m)
+    (range_with_len 0 pages) mapped pages None (sizes ∙ sym size)
+    (λ n below has. elim (cases_eq n p.page.0) [
+      | inl same ↦
+          ap (λ k. is_some (get_or mapped k None)) same
+          ∙ ap (λ (o : Option Mapping). is_some o) (get_or-set_same s.world.places.pages p.page.0 (Some m) None in_range)
+      | inr apart ↦
+          ap (λ (o : Option Mapping). is_some o) (get_or-set_other s.world.places.pages p.page.0 n (Some m) None apart)
+          ∙ some_best s (record { 0 = n }) always
+          (λ q is same. apart (sym (ap (λ (x : PageNo). x.0) (ap (λ (x : Pending). x.page) (same_Some p q (sym waits ∙ is)) ∙ same))))
+          (sym (ap (λ k. is_some (best s.world.flash.cells (record { 0 = k }))) (number_is pages n (omega arith))) ∙ has)
+    ]) in
+    omega arith
+
+-- no more pages are sealed than may be mapped
+pub few_sealed : (s : PageStoreView) → IsAlways s
+    → sealed_count (length s.world.places.pages) s.world.flash.cells ≤ page_capacity s.world
+few_sealed s always = let few = few_by s s.waits refl always in let room = always.room in omega arith
+
+-- all that a mount finds
+pub recoverable : (s : PageStoreView) → IsAlways s → IsRecoverable s
+recoverable s always = record {
+  covered = covered s always;
+  mapped = λ page other. best_mapping s page always other;
+  waiting = λ p is. best_pending s p always is;
+  few = few_sealed s always;
+}

@@ -14,7 +14,7 @@ use Rattle.ff_space.specs.declared.block.BlockState.TheVariants.{Erased, Full, H
 use Rattle.ff_map.specs.PageMap.{MapView}
 use Rattle.ff_map.specs.declared.places.Mapping.{Mapping}
 use Rattle.ff_gc.proofs.Counting.{count_cons, count_set, count_some}
-use Rattle.ff_gc.specs.Running.{IsIdle, is_in, mapped_in}
+use Rattle.ff_gc.specs.Running.{IsCollectorIdle, is_in, mapped_in}
 
 -- the sum of the first values
 abbrev sum_to : (ℕ → ℕ) → ℕ → ℕ
@@ -152,7 +152,7 @@ all_counted per table erased_one (suc k) most whole =
 -- a block can be collected
 pub has_victim : (per : ℕ) (table : TableView) (places : MapView) → table.per_block ≡ per → 0 < per
     → 2 ≤ length table.blocks
-    → ((b : ℕ) → b < length table.blocks → (block_at table b).mapped ≡ mapped_in per places b) → IsIdle table
+    → ((b : ℕ) → b < length table.blocks → (block_at table b).mapped ≡ mapped_in per places b) → IsCollectorIdle table
     → count_by (λ m. is_some m) places.pages ≤ (length table.blocks - 1) * per - 1 → IsNoPlace table → IsAllMapped table → ⊥
 has_victim per table places same some two counted idle room nowhere all =
     let n = length table.blocks in

@@ -13,12 +13,12 @@ use Rattle.ff_gc.proofs.Falling.{steps_end, steps_fall}
 use Rattle.ff_gc.specs.Collector.{is_busy}
 use Rattle.ff_gc.specs.Left.{IsEndingAt, is_open, left_from, left_in, open_count}
 use Rattle.ff_gc.specs.Steps.{IsStep}
-use Rattle.ff_gc.specs.World.{IsReady, World}
+use Rattle.ff_gc.specs.World.{IsCollectorReady, World}
 use Rattle.ff_gc.specs.declared.collector.GcStep.{GcStep}
 use Rattle.ff_gc.specs.declared.collector.GcStep.TheVariants.{Idle as IdleStep}
 use Rattle.ff_gc.specs.declared.phase.Phase.{Phase}
 use Rattle.ff_gc.specs.declared.phase.Phase.TheVariants.{Idle, Programming, Reading, Sealing, Commit, Erasing, Aborting}
-use Rattle.ff_store.proofs.Flushing.{found_of}
+use Rattle.ff_store.proofs.Targets.{found_of}
 use Rattle.ff_store.specs.Left.{is_ending, left_of}
 
 some_not : (n : ℕ) → 0 < n → not (eqb n 0) ≡ true
@@ -131,7 +131,7 @@ idle_ends_not table moves nowhere = elim (cases_Bool (is_ending moves table Idle
   | inr miss ↦ miss
 ]
 
-busy_falls : (old new : World) (step : GcStep) → IsTableSound old.table → IsReady old → is_busy old.gc.phase ≡ true
+busy_falls : (old new : World) (step : GcStep) → IsTableSound old.table → IsCollectorReady old → is_busy old.gc.phase ≡ true
     → step ≢ IdleStep → IsStep old (Ok step) new → new.gc.per_block ≡ old.gc.per_block → left_of new < left_of old
 busy_falls old new step sound ready busy other r per =
     let fall = steps_fall old new step ready other r in
@@ -148,7 +148,7 @@ busy_falls old new step sound ready busy other r per =
       | inr miss ↦ (let before = left_other old miss in omega arith)
     ]
 
-idle_falls : (old new : World) (step : GcStep) → IsTableSound old.table → IsReady old → old.gc.phase ≡ Idle
+idle_falls : (old new : World) (step : GcStep) → IsTableSound old.table → IsCollectorReady old → old.gc.phase ≡ Idle
     → IsNoPlace old.table → step ≢ IdleStep → IsStep old (Ok step) new → new.gc.per_block ≡ old.gc.per_block
     → left_of new < left_of old
 idle_falls old new step sound ready idle nowhere other r per =
@@ -165,7 +165,7 @@ idle_falls old new step sound ready idle nowhere other r per =
     omega arith
 
 -- a collection step of a flush that worked leaves fewer of them
-pub left_falls : (old new : World) (step : GcStep) → IsTableSound old.table → IsReady old
+pub left_falls : (old new : World) (step : GcStep) → IsTableSound old.table → IsCollectorReady old
     → (is_busy old.gc.phase ≡ true) ⊎ IsNoPlace old.table → step ≢ IdleStep → IsStep old (Ok step) new
     → new.gc.per_block ≡ old.gc.per_block → left_of new < left_of old
 left_falls old new step sound ready why other r per = elim (cases_Bool (is_busy old.gc.phase)) [

@@ -22,7 +22,7 @@ use Rattle.ff_gc.proofs.PageCopies.{same_page}
 use Rattle.ff_gc.proofs.Retaining.{cell_at-set, cell_at-set_other}
 use Rattle.ff_gc.specs.Cells.{AreMapped, AreSealed}
 use Rattle.ff_gc.specs.Running.{is_in, mapped_in}
-use Rattle.ff_gc.specs.World.{IsReady, World}
+use Rattle.ff_gc.specs.World.{IsCollectorReady, World}
 use Rattle.ff_store.proofs.Basics.{waiting_some}
 use Rattle.ff_store.specs.Calls.{dropped, new_mapping, placed_table}
 use Rattle.ff_store.specs.PageStore.{IsPending, IsStoreSound, PageStoreView, spare_of}
@@ -34,7 +34,7 @@ pub pending_in : (s : PageStoreView) (p : Pending) → IsStoreSound s → s.worl
 pending_in s p sound on waits = waiting_some s s.waits p waits (sound.running on).waiting
 
 -- the block of a mapped page is one of the table's, and the page is counted there
-pub mapped_block : (w : World) (page : PageNo) (m : Mapping) → IsReady w → mapping_of w.places page ≡ Some m
+pub mapped_block : (w : World) (page : PageNo) (m : Mapping) → IsCollectorReady w → mapping_of w.places page ≡ Some m
     → m.at.0 / w.gc.per_block < length w.table.blocks
 mapped_block w page m ready is =
     let placed = ready.safe.mapped.placed page m is in

@@ -71,10 +71,6 @@ pub record SameBytes (old new : PageStoreView) : Type 0 where
 abbrev pub waiting_page : PageStoreView → Option PageNo
 waiting_page s = option_map (λ p. p.page) s.waits
 
--- the programmed bytes of the page that is to be sealed
-abbrev pub waiting_bytes : PageStoreView → Option (List ℕ)
-waiting_bytes s = option_map (λ p. cell_bytes (cell_at s.world.flash.cells p.at.0)) s.waits
-
 -- a mapped page is read into a buffer
 pub record Fetches (old : PageStoreView) (at : Ppn) (before : List ℕ)
     (result : Result (Unit {0}) FlashStop) (after : List ℕ) (new : PageStoreView) : Type 0 where

@@ -2,6 +2,8 @@
 //! flushed and sealed, and space is collected, in steps of at most one flash operation.
 #![tactic(auto)]
 
+mod collecting;
+mod flushing;
 mod pending;
 mod store;
 mod writing;

@@ -1,26 +1,24 @@
-// The store and its calls.
-ghost use Rattle.std.specs.Prelude.{◌≡◌, ◌≢◌, ◌*◌, ◌+◌, ◌<◌, ◌≤◌, ◌^◌, ◌↔◌, ◌&&◌, true, false, length, replicate, IfOk, IfErr, IfSome, IsTrue, MatchOption, MatchResult, if◌then◌else◌, None, Some, Ok, Err, is_some};
+// A store of pages, and its calls.
+ghost use Rattle.std.specs.Prelude.{◌≡◌, ◌≢◌, ◌*◌, ◌+◌, ◌<◌, ◌≤◌, ◌↔◌, ◌&&◌, true, false, length, replicate, IfOk, IfErr, IfSome, IsTrue, MatchOption, MatchResult, None, Some, Ok, Err, is_some};
 ghost use Rattle.ff_base.specs.Geometry.{IsWithinLimits};
-ghost use Rattle.ff_base.specs.Page.{blank_page};
 ghost use Rattle.ff_flash.specs.Cells.{IsSealed, cell_at, erased};
 ghost use Rattle.ff_flash.specs.FlashState.{HasOperationsLeft, powered_off};
 ghost use Rattle.ff_flash.specs.Injected.{stop_of};
 ghost use Rattle.ff_flash.specs.declared.flash.FlashStop.TheVariants.{Failed, Off};
-ghost use Rattle.ff_space.specs.BlockTable.{IsTableSound, block_at, new_table};
-ghost use Rattle.ff_space.specs.declared.block.BlockState.TheVariants.{Erased, Open};
+ghost use Rattle.ff_space.specs.BlockTable.{IsTableSound, new_table};
 ghost use Rattle.ff_map.specs.PageMap.{IsMapSound, empty_map, place_of};
 ghost use Rattle.ff_gc.specs.Collector.{new_collector};
 ghost use Rattle.ff_gc.specs.World.{page_bytes};
-ghost use Rattle.ff_store.specs.Calls.{Collects, CollectsFor, CollectsNow, Fetches, Flushes, IsCall, IsProgrammed, IsWritePlace, MatchSealed, ProgramsPage, SameBytes, SealsPage, WantsCollect, waiting_page};
+ghost use Rattle.ff_store.specs.Calls.{Collects, Fetches, Flushes, IsCall, IsProgrammed, MatchSealed, SameBytes, SealsPage, WantsCollect, waiting_page};
 ghost use Rattle.ff_store.specs.Left.{left_of};
 ghost use Rattle.ff_store.specs.PageStore.{IsStoreSound, new_store};
 ghost use Rattle.ff_store.specs.Pages.{is_mapped, mapped_with, page_capacity};
+ghost use Rattle.ff_store.specs.Recoverable.{IsRecoverable};
 ghost use Rattle.ff_store.specs.declared.store.FlushStep.TheVariants.{Collected, Programmed};
 
 use crate::pending::Pending;
-use crate::writing::{WritePlace, drop_old, use_place, write_place};
-use ff_base::{Block, Geometry, NoMemory, PageBuf, PageNo, Ppn};
-use ff_flash::{Flash, FlashStop, Spare};
+use ff_base::{Geometry, NoMemory, PageBuf, PageNo, Ppn};
+use ff_flash::{Flash, FlashStop};
 use ff_gc::{Collector, Counts, GcStep, OperationKind};
 use ff_map::PageMap;
 use ff_space::BlockTable;
@@ -41,16 +39,16 @@ pub enum FlushStep {
 /// A store of logical pages over a flash.
 #[derive(Drop)]
 pub struct PageStore<F: Flash> {
-    flash: F,
-    collector: Collector,
-    space: BlockTable,
-    places: PageMap,
-    counts: Counts,
-    waits: Option<Pending>,
-    owed: bool,
-    per_block: u32,
-    low: u32,
-    opened: u64,
+    pub(crate) flash: F,
+    pub(crate) collector: Collector,
+    pub(crate) space: BlockTable,
+    pub(crate) places: PageMap,
+    pub(crate) counts: Counts,
+    pub(crate) waits: Option<Pending>,
+    pub(crate) owed: bool,
+    pub(crate) per_block: u32,
+    pub(crate) low: u32,
+    pub(crate) opened: u64,
 }
 
 impl<F: Flash> Model for PageStore<F> {
@@ -128,8 +126,11 @@ impl<F: Flash> PageStore<F> {
     }
 
     /// What every store keeps. For the prover alone.
+    #[tactic(auto, using(crate::proofs::Remaining::left_most))]
     pub fn known(&self)
         ensures store { IsStoreSound self.now }
+        ensures recoverable { IsRecoverable self.now }
+        ensures left { left_of self.now.world ≤ 6 * self.now.world.gc.per_block + 5 }
         ensures table { IsTableSound self.now.world.table }
         ensures map { IsMapSound self.now.world.places }
     {
@@ -164,8 +165,8 @@ impl<F: Flash> PageStore<F> {
         self.counts
     }
 
-    #[tactic(auto, using(crate::proofs::Calling::place_within, crate::proofs::Calling::fetched_call))]
     /// Reads a page. One that isn't mapped is zeros, without a flash operation.
+    #[tactic(auto, using(crate::proofs::Calling::place_within, crate::proofs::Calling::fetched_call))]
     pub fn fetch(&mut self, page: PageNo, into: &mut PageBuf) -> Result<(), FlashStop>
         requires life { HasOperationsLeft self.old.world.flash }
         ensures off { self.old.world.flash.on ≡ false → (result ≡ Err Off) × (self.new ≡ self.old) }
@@ -223,109 +224,6 @@ impl<F: Flash> PageStore<F> {
         self.flush(page, from)
     }
 
-    fn flush(&mut self, page: PageNo, from: &PageBuf) -> Result<FlushStep, FlashStop>
-        requires life { HasOperationsLeft self.old.world.flash }
-        requires on { self.old.world.flash.on ≡ true }
-        requires none { self.old.waits ≡ None }
-        requires page { page.0 < length self.old.world.places.pages }
-        requires room { mapped_with self.old.world.places page ≤ page_capacity self.old.world }
-        ensures step { Flushes self.old page from.now result self.new }
-        ensures call { IsCall self.old (stop_of result) self.new }
-        ensures same { SameBytes self.old self.new }
-        ensures programmed { result ≡ Ok Programmed → IsProgrammed self.new page from.now }
-        ensures none { result ≢ Ok Programmed → self.new.waits ≡ None }
-        ensures left { result ≡ Ok Collected → left_of self.new.world < left_of self.old.world }
-    {
-        self.known();
-        self.program_or_collect(page, from)
-    }
-
-    fn program_or_collect(&mut self, page: PageNo, from: &PageBuf) -> Result<FlushStep, FlashStop>
-        requires life { HasOperationsLeft self.old.world.flash }
-        requires on { self.old.world.flash.on ≡ true }
-        requires none { self.old.waits ≡ None }
-        requires page { page.0 < length self.old.world.places.pages }
-        requires room { mapped_with self.old.world.places page ≤ page_capacity self.old.world }
-        ensures { Flushes self.old page from.now result self.new }
-    {
-        if self.owed {
-            return self.collect_for_flush();
-        }
-        match write_place(&self.space, self.per_block) {
-            Some(place) => self.program(page, from, place),
-            None => self.collect_for_flush(),
-        }
-    }
-
-    fn collect_for_flush(&mut self) -> Result<FlushStep, FlashStop>
-        requires life { HasOperationsLeft self.old.world.flash }
-        requires on { self.old.world.flash.on ≡ true }
-        requires none { self.old.waits ≡ None }
-        requires now { CollectsNow self.old }
-        ensures { CollectsFor self.old result self.new }
-    {
-        match self.collect(true) {
-            Ok(_) => Ok(FlushStep::Collected),
-            Err(stop) => Err(stop),
-        }
-    }
-
-    // Makes one step of the collector. Where it is owed the next one is, until the collection ends.
-    fn collect(&mut self, owed: bool) -> Result<GcStep, FlashStop>
-        requires life { HasOperationsLeft self.old.world.flash }
-        requires on { self.old.world.flash.on ≡ true }
-        requires none { self.old.waits ≡ None }
-        ensures { Collects owed self.old result self.new }
-    {
-        let result = self.collector.step(
-            &mut self.flash,
-            &mut self.space,
-            &mut self.places,
-            &mut self.counts,
-        );
-        self.owed = both(owed, self.collector.busy());
-        result
-    }
-
-    // Programs a page, with the next version.
-    fn program(
-        &mut self,
-        page: PageNo,
-        from: &PageBuf,
-        place: WritePlace,
-    ) -> Result<FlushStep, FlashStop>
-        requires life { HasOperationsLeft self.old.world.flash }
-        requires on { self.old.world.flash.on ≡ true }
-        requires none { self.old.waits ≡ None }
-        requires page { page.0 < length self.old.world.places.pages }
-        requires room { mapped_with self.old.world.places page ≤ page_capacity self.old.world }
-        requires place { IsWritePlace self.old.world.table place.block.0 place.at.0 }
-        requires state { (block_at self.old.world.table place.block.0).state
-            ≡ (if place.erased then Erased else Open) }
-        ensures { ProgramsPage self.old page from.now result self.new }
-    {
-        self.known();
-        let _bytes = from.as_slice();
-        let version = self.places.draw_version();
-        self.counts.begin(OperationKind::Program);
-        match self.flash.program(place.at, from, Spare { page, version }) {
-            Ok(()) => {
-                use_place(&mut self.space, place);
-                self.waits = Some(Pending {
-                    page,
-                    at: place.at,
-                    version,
-                });
-                Ok(FlushStep::Programmed)
-            }
-            Err(FlashStop::Failed) => {
-                use_place(&mut self.space, place);
-                Err(FlashStop::Failed)
-            }
-            Err(FlashStop::Off) => Err(FlashStop::Off),
-        }
-    }
-
     /// Seals the page that waits: it is stored with the programmed bytes then. `Failed` ends the flush, and the page
     /// keeps its old bytes.
     pub fn seal_step(&mut self) -> Result<FlushStep, FlashStop>
@@ -347,42 +245,6 @@ impl<F: Flash> PageStore<F> {
         }
     }
 
-    fn end_flush(&mut self, pending: Pending) -> Result<FlushStep, FlashStop>
-        requires life { HasOperationsLeft self.old.world.flash }
-        requires on { self.old.world.flash.on ≡ true }
-        requires waits { self.old.waits ≡ Some pending }
-        ensures step { SealsPage self.old pending result self.new }
-        ensures call { IsCall self.old (stop_of result) self.new }
-        ensures placed { IfOk result (λ step. MatchSealed self.old step self.new) }
-        ensures stopped { IfErr result (λ _. SameBytes self.old self.new) }
-    {
-        self.known();
-        self.seal(pending)
-    }
-
-    fn seal(&mut self, pending: Pending) -> Result<FlushStep, FlashStop>
-        requires life { HasOperationsLeft self.old.world.flash }
-        requires on { self.old.world.flash.on ≡ true }
-        requires waits { self.old.waits ≡ Some pending }
-        ensures { SealsPage self.old pending result self.new }
-    {
-        self.counts.begin(OperationKind::Seal);
-        match self.flash.seal(pending.at) {
-            Ok(()) => {
-                drop_old(&mut self.space, &self.places, self.per_block, pending.page);
-                self.space.add_mapped(Block(pending.at.0 / self.per_block));
-                self.places.set(pending.page, pending.at, pending.version);
-                self.waits = None;
-                Ok(FlushStep::Sealed(pending.page))
-            }
-            Err(FlashStop::Failed) => {
-                self.waits = None;
-                Err(FlashStop::Failed)
-            }
-            Err(FlashStop::Off) => Err(FlashStop::Off),
-        }
-    }
-
     /// Makes one step of the collector. No flush waits.
     pub fn collect_step(&mut self) -> Result<GcStep, FlashStop>
         requires life { HasOperationsLeft self.old.world.flash }
@@ -397,18 +259,6 @@ impl<F: Flash> PageStore<F> {
             return Err(FlashStop::Off);
         }
         self.collect_on()
-    }
-
-    fn collect_on(&mut self) -> Result<GcStep, FlashStop>
-        requires life { HasOperationsLeft self.old.world.flash }
-        requires on { self.old.world.flash.on ≡ true }
-        requires none { self.old.waits ≡ None }
-        ensures call { IsCall self.old (stop_of result) self.new }
-        ensures step { Collects self.old.owed self.old result self.new }
-        ensures same { SameBytes self.old self.new }
-    {
-        self.known();
-        self.collect(self.owed)
     }
 
     /// Whether the collector has something to do: a collection runs, or few blocks are erased and one can be collected.
@@ -439,10 +289,4 @@ impl<F: Flash> PageStore<F> {
     {
         self.flash
     }
-}
-
-fn both(one: bool, other: bool) -> bool
-    ensures { result ≡ (one && other) }
-{
-    one && other
 }

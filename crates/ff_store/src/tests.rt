@@ -1,11 +1,14 @@
 // Flushes, fetches and collections over a simulated flash.
+mod faults;
+mod found;
 mod rig;
 
 use super::*;
 use ff_base::{Geometry, PageBuf, PageNo};
 use ff_flash::{Flash, FlashStop};
 use ff_gc::GcStep;
-use rig::Rig;
+use rig::{Fault, Rig};
+use std::alloc::Global;
 use std::process::Abort;
 use std::test::Fail;
 
@@ -25,6 +28,10 @@ fn small(blocks: u32, low: u32) -> Geometry {
         low,
         ..Geometry::default()
     }
+}
+
+fn rig_of(rt: &impl Abort, alloc: Global, geometry: &Geometry, fault: Fault) -> Rig {
+    Rig::new(alloc, geometry, fault).expect(rt, "want of memory")
 }
 
 fn fill(page: &mut PageBuf, byte: u8) {
@@ -68,7 +75,7 @@ const SEVEN_STORES: [Call; 8] = [
 #[test]
 fn a_flush_without_a_place_collects(rt: HostRuntime) -> Result<(), Fail> {
     let mut page = PageBuf::new(rt.alloc())?;
-    let mut rig = Rig::new(rt.alloc(), &small(4, 1)).expect(&rt, "want of memory");
+    let mut rig = rig_of(&rt, rt.alloc(), &small(4, 1), Fault::Nothing);
     make_all(&rt, &mut rig, &mut page, &SEVEN_STORES);
     assert_eq!(rt; rig.store().flash().operation_count(), 14);
     assert!(rt; rig.store().wants_collect());
@@ -89,7 +96,7 @@ fn a_flush_without_a_place_collects(rt: HostRuntime) -> Result<(), Fail> {
 #[test]
 fn a_page_flushed_anew_keeps_its_bytes_over_a_commit(rt: HostRuntime) -> Result<(), Fail> {
     let mut page = PageBuf::new(rt.alloc())?;
-    let mut rig = Rig::new(rt.alloc(), &small(6, 8)).expect(&rt, "want of memory");
+    let mut rig = rig_of(&rt, rt.alloc(), &small(6, 8), Fault::Nothing);
     assert!(rt; !rig.store().wants_collect());
     make_all(&rt, &mut rig, &mut page, &SEVEN_STORES);
     assert!(rt; rig.store().wants_collect());
@@ -109,10 +116,30 @@ fn a_page_flushed_anew_keeps_its_bytes_over_a_commit(rt: HostRuntime) -> Result<
     Ok(())
 }
 
+// Three blocks of two pages have room for three pages.
+#[test]
+fn a_full_store_takes_each_page_anew(rt: HostRuntime) -> Result<(), Fail> {
+    let mut page = PageBuf::new(rt.alloc())?;
+    let geometry = Geometry {
+        pages: 3,
+        ..small(3, 1)
+    };
+    let mut rig = rig_of(&rt, rt.alloc(), &geometry, Fault::Nothing);
+    for turn in 0..4 {
+        for number in 0..3 {
+            make(&rt, &mut rig, &mut page, Call::Flush(number, 16 * turn + 1));
+        }
+        for number in 0..3 {
+            make(&rt, &mut rig, &mut page, Call::Fetch(number, 16 * turn + 1));
+        }
+    }
+    Ok(())
+}
+
 #[test]
 fn a_page_is_mapped_when_it_is_sealed(rt: HostRuntime) -> Result<(), Fail> {
     let mut page = PageBuf::new(rt.alloc())?;
-    let mut rig = Rig::new(rt.alloc(), &small(4, 1)).expect(&rt, "want of memory");
+    let mut rig = rig_of(&rt, rt.alloc(), &small(4, 1), Fault::Nothing);
     fill(&mut page, 0xa3);
     assert_eq!(rt; rig.flush_step(3, &page), Some(Ok(FlushStep::Programmed)));
     assert_eq!(rt; waiting(&rig), (Some(PageNo(3)), false));

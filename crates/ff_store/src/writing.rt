@@ -5,9 +5,10 @@ ghost use Rattle.ff_space.specs.Blocks.{advanced};
 ghost use Rattle.ff_space.specs.BlockTable.{block_at, changed_at};
 ghost use Rattle.ff_space.specs.Choices.{IsNoPlace};
 ghost use Rattle.ff_space.specs.declared.block.BlockState.TheVariants.{Erased, Open};
-ghost use Rattle.ff_map.specs.PageMap.{mapping_of};
-ghost use Rattle.ff_store.specs.Calls.{IsWritePlace, dropped, opened_block};
+ghost use Rattle.ff_map.specs.PageMap.{IsFreeBut, mapping_of, with_mapping};
+ghost use Rattle.ff_store.specs.Calls.{IsWritePlace, dropped, new_mapping, opened_block};
 
+use crate::pending::Pending;
 use ff_base::{Block, PageNo, Ppn};
 use ff_map::PageMap;
 use ff_space::{BlockTable, Place};
@@ -96,4 +97,14 @@ pub fn drop_old(space: &mut BlockTable, places: &PageMap, per_block: u32, page: 
     if let Some(at) = places.get(page) {
         space.drop_mapped(Block(at.0 / per_block));
     }
+}
+
+/// Maps a page to the place where it was programmed.
+pub fn map_page(places: &mut PageMap, pending: Pending)
+    requires page { pending.page.0 < length places.old.pages }
+    requires place { pending.at.0 < places.old.places }
+    requires free { IsFreeBut places.old pending.at pending.page }
+    ensures { places.new ≡ with_mapping places.old pending.page (new_mapping pending) }
+{
+    places.set(pending.page, pending.at, pending.version);
 }

@@ -1,12 +1,13 @@
 // A store with room for all its pages, whose calls see to it that they may be made.
-ghost use Rattle.std.specs.Prelude.{◌≡◌, IsTrue, None, is_some};
+ghost use Rattle.std.specs.Prelude.{◌≡◌, ◌<◌, ◌≤◌, IfOk, IsTrue, None, is_some, length};
+ghost use Rattle.ff_base.specs.Geometry.{IsWithinLimits, capacity_of};
 ghost use Rattle.ff_flash.specs.FlashState.{HasOperationsLeft};
 ghost use Rattle.ff_flash.specs.Plans.{IsPlan, planned_of};
-ghost use Rattle.ff_store.specs.Pages.{HasRoomForAll};
+ghost use Rattle.ff_store.specs.Pages.{HasRoomForAll, mapped_with, page_capacity};
 
 use crate::{FlushStep, PageStore};
-use ff_base::{Geometry, PageBuf, PageNo};
-use ff_flash::{Flash, FlashStop, Plan, SimFlash};
+use ff_base::{Geometry, NoMemory, PageBuf, PageNo};
+use ff_flash::{CutAt, Flash, FlashStop, Plan, SimFlash};
 use ff_gc::GcStep;
 use std::alloc::Global;
 
@@ -19,12 +20,38 @@ pub struct Rig {
     ghost room: { HasRoomForAll store.world },
 }
 
-fn no_faults(alloc: Global) -> Plan
-    ensures { IsPlan (planned_of result) }
+/// How the flash is made to go.
+#[derive(Clone, Copy)]
+pub enum Fault {
+    Nothing,
+    /// The operation after so many fails.
+    Fail(u32),
+    /// The operation after so many is cut, by this mask.
+    Cut(u32, u32),
+}
+
+fn plan_of(alloc: Global, fault: Fault) -> Result<Plan, NoMemory>
+    ensures { IfOk result (λ plan. IsPlan (planned_of plan)) }
 {
-    Plan {
-        fail: Vec::new(alloc),
-        cuts: Vec::new(alloc),
+    match fault {
+        Fault::Nothing => Ok(Plan {
+            fail: Vec::new(alloc),
+            cuts: Vec::new(alloc),
+        }),
+        Fault::Fail(made) => Ok(Plan {
+            fail: vec![in alloc; u64::from(made) + 1]?,
+            cuts: Vec::new(alloc),
+        }),
+        Fault::Cut(made, mask) => Ok(Plan {
+            fail: Vec::new(alloc),
+            cuts: vec![in alloc;
+                CutAt {
+                    at: u64::from(made) + 1,
+                    mask,
+                    arrive: 0,
+                },
+            ]?,
+        }),
     }
 }
 
@@ -46,11 +73,22 @@ fn may_seal(store: &PageStore<SimFlash>) -> bool
 
 #[tactic(auto, using(crate::proofs::Rooms::room_for, crate::proofs::Rooms::room_after))]
 impl Rig {
-    pub fn new(alloc: Global, geometry: &Geometry) -> Option<Rig> {
+    pub fn new(alloc: Global, geometry: &Geometry, fault: Fault) -> Option<Rig> {
         if geometry.check().is_err() || geometry.capacity() < geometry.pages {
             return None;
         }
-        match SimFlash::new(alloc, geometry, no_faults(alloc)) {
+        match plan_of(alloc, fault) {
+            Ok(plan) => Rig::over(alloc, geometry, plan),
+            Err(_) => None,
+        }
+    }
+
+    fn over(alloc: Global, geometry: &Geometry, plan: Plan) -> Option<Rig>
+        requires geometry { IsWithinLimits geometry.now }
+        requires room { geometry.now.pages ≤ capacity_of geometry.now }
+        requires plan { IsPlan (planned_of plan) }
+    {
+        match SimFlash::new(alloc, geometry, plan) {
             Ok(flash) => match PageStore::new(alloc, flash, geometry) {
                 Ok(store) => Some(Rig { store }),
                 Err(_) => None,
@@ -71,7 +109,7 @@ impl Rig {
     }
 
     pub fn flush_step(&mut self, page: u32, from: &PageBuf) -> Step {
-        if !may_begin(&self.store) || page >= self.store.pages() {
+        if !may_begin(&self.store) || !has_room(self, PageNo(page)) {
             return None;
         }
         Some(self.store.flush_step(PageNo(page), from))
@@ -110,4 +148,13 @@ impl Rig {
     pub fn into_flash(self) -> SimFlash {
         self.store.into_flash()
     }
+}
+
+#[tactic(auto, using(crate::proofs::Rooms::room_for))]
+fn has_room(rig: &Rig, page: PageNo) -> bool
+    ensures page { IsTrue result → page.0 < length rig.now.store.world.places.pages }
+    ensures room { IsTrue result
+        → mapped_with rig.now.store.world.places page ≤ page_capacity rig.now.store.world }
+{
+    page.0 < rig.store.pages()
 }

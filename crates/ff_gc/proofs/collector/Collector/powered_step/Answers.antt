@@ -1,7 +1,7 @@
 use Rattle.std.proofs.Common.{ap, sym, ◌∙◌}
 use Rattle.ff_gc.proofs.PageCopies.{at_phase}
 use Rattle.ff_gc.proofs.Stepping.{step_in}
-use Rattle.ff_gc.proofs.Switched.{can_end, can_switch}
+use Rattle.ff_gc.proofs.Switching.{can_end, can_switch}
 use Rattle.ff_gc.specs.Collector.{CollectorView}
 use Rattle.ff_gc.specs.World.{world_of}
 use Rattle.ff_gc.specs.declared.phase.Phase.TheVariants.{Commit, Idle, Reading}

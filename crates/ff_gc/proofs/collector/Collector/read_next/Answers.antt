@@ -1,6 +1,6 @@
 use Rattle.std.proofs.Common.{subst}
 use Rattle.ff_gc.proofs.PageCopies.{at_phase, next_sealed}
-use Rattle.ff_gc.proofs.Switched.{can_end, can_switch}
+use Rattle.ff_gc.proofs.Switching.{can_end, can_switch}
 use Rattle.ff_gc.specs.Collector.{CollectorView}
 use Rattle.ff_gc.specs.Originals.{IsNext}
 use Rattle.ff_gc.specs.Steps.{reads}

@@ -9,6 +9,6 @@ invariant_of-self g c =
     let none = ap (λ (s : PageStoreView). s.waits) c.self.view_is ∙ c.requires.none in
     let keeps = c.step-result.ensures.kept on in
     rw (c.both-self-inside.ensures, c.busy.ensures) record {
-      sound = collected_sound _ _ c.args.owed _ c.self.invariant.sound on none keeps (c.step-result.ensures.step on);
+      sound = collected_sound _ _ _ _ c.self.invariant.sound on none keeps (c.step-result.ensures.step on);
       per_block_is = c.self.invariant.per_block_is ∙ sym keeps.same.per_block;
     }

@@ -1,7 +1,8 @@
 use Rattle.std.proofs.Common.{◌<◌, ◌≤◌, length, ap, sym, subst, ◌∙◌}
 use Rattle.ff_space.specs.BlockTable.{IsTableSound}
 use Rattle.ff_store.proofs.Basics.{ready_in}
-use Rattle.ff_store.proofs.Flushing.{flushed_failed, flushed_off, flushed_ok, target_of}
+use Rattle.ff_store.proofs.PagePrograms.{flushed_failed, flushed_off, flushed_ok}
+use Rattle.ff_store.proofs.Targets.{target_of}
 use Rattle.ff_store.specs.Calls.{IsWritePlace}
 use Rattle.ff_store.specs.PageStore.{PageStoreView}
 use Rattle.ff_store.specs.Pages.{mapped_with, page_capacity}

@@ -30,7 +30,7 @@ pub invariant_of-self : goal.invariant_of-self
 invariant_of-self g c =
     let on = ap (λ (s : PageStoreView). s.world.flash.on) c.self.view_is ∙ c.requires.on in
     let waits = ap (λ (s : PageStoreView). s.waits) c.self.view_is ∙ c.requires.waits in
-    rw (c.add_mapped.ensures, c.set.ensures, c.drop_old.ensures, c.self.invariant.per_block_is) record {
+    rw (c.add_mapped.ensures, c.map_page.ensures, c.drop_old.ensures, c.self.invariant.per_block_is) record {
       sound = settled_ok _ (g.F.Flash.state c.seal.new.self) c.begin.new.self c.args.pending c.self.invariant.sound on waits
           (record { flash = c.in-Ok.ensures.counts; counts = c.begin.ensures }) c.in-Ok.ensures.cells;
       per_block_is = refl;
