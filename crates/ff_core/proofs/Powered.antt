@@ -134,11 +134,11 @@ record LeavesSession {T E : Type 0} (old new : CoreView T E) : Type 0 where
 
 -- no part but the log and the counts changed
 left_by : {T E : Type 0} (old new : CoreView T E) → new ≡ record old {
-      events = new.events;
-      log = record old.log { turns = new.log.turns };
-      tally = new.tally;
-      hierarchy = new.hierarchy;
-    } → Leaves old.hierarchy new.hierarchy → LeavesSession old new
+  events = new.events;
+  log = record old.log { turns = new.log.turns };
+  tally = new.tally;
+  hierarchy = new.hierarchy;
+} → Leaves old.hierarchy new.hierarchy → LeavesSession old new
 left_by {T = T} {E = E} old new is leaves = record {
   same = record {
     opening = ap (λ (c : CoreView T E). c.opening) is;

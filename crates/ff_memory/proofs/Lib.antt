@@ -10,7 +10,9 @@ pub mod Landings
 pub mod Lifts
 pub mod Moves
 pub mod PostStores
+pub mod Resting
 pub mod Rooms
+pub mod Shapes
 pub mod Sites
 pub mod Spans
 pub mod Steps

@@ -10,6 +10,8 @@ mod mark;
 mod memory;
 mod place;
 mod store;
+#[cfg(test)]
+mod tests;
 
 pub use access::{Access, Side, What};
 pub use memory::Memory;

@@ -1,2 +1,2 @@
 mod PlainDevice
-mod PlainPages
+pub mod PlainPages

@@ -1,1 +1,2 @@
+pub mod CountedPages
 pub mod Ledger

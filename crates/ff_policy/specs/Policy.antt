@@ -1,5 +1,6 @@
 -- What a contract sees of a policy, what a policy keeps, and what its calls make of it.
-use Rattle.std.specs.Prelude.{ℕ, ◌≡◌, ◌+◌, ◌*◌, ◌/◌, ◌<◌, ◌≤◌, ◌==◌, ◌^◌, Bool, true, false, List, map, sum, min, replicate, slice_index, slice_set}
+use Rattle.std.specs.Prelude.{ℕ, ◌≡◌, ◌+◌, ◌*◌, ◌<◌, ◌≤◌, ◌==◌, ◌^◌, Bool, true, false, List, sum, replicate, slice_index, slice_set}
+use Rattle.ff_policy.specs.Counters.{halved, raised_count}
 use Rattle.ff_policy.specs.Tuner.{TunerView}
 use Rattle.ff_policy.specs.declared.policy.TheConstants.{STEP_ACCESSES}
 
@@ -33,6 +34,7 @@ pub record IsPolicySound {T : Type 0} (policy : PolicyView T) : Type 0 where
   pub positive : 1 ≤ policy.tuner.floor
   pub least : policy.tuner.floor ≤ policy.threshold
   pub stepped : policy.recent < STEP_ACCESSES
+  pub few_counted : sum policy.counters ≤ STEP_ACCESSES + policy.recent
   pub few_hits : policy.hits ≤ 2 ^ 63
   pub few_accesses : policy.accesses ≤ 2 ^ 63
 
@@ -43,14 +45,6 @@ counter_of policy page = slice_index policy.counters page
 -- the page is hot
 abbrev pub IsHot : {T : Type 0} → PolicyView T → ℕ → Type 0
 IsHot policy page = policy.threshold ≤ counter_of policy page
-
--- a counter after one more access
-abbrev pub raised_count : ℕ → ℕ
-raised_count count = min (count + 1) 255
-
--- every counter halved, rounded down
-abbrev pub halved : List ℕ → List ℕ
-halved counters = map (λ count. count / 2) counters
 
 -- the policy after a promotion of the page began
 abbrev pub promoted : {T : Type 0} → ℕ → PolicyView T → PolicyView T

@@ -6,7 +6,7 @@ use Rattle.ff_policy.specs.declared.policy.Policy.TheInside.{Inside}
 abbrev pub view_of : {T : Type 0} → Inside T → PolicyView T
 view_of p =
     record {
-      counters = p.counters.items;
+      counters = p.counters;
       threshold = p.threshold;
       hits = p.hits;
       recent = p.recent;

@@ -1,7 +1,7 @@
 // The policy: which pages are hot, and what a promotion costs.
 ghost use Rattle.std.specs.Prelude.{◌≡◌, ◌+◌, ◌<◌, ◌↔◌, ◌^◌, IfOk, IfErr, IsTrue, length};
 
-use crate::counters::{halve, raised};
+use crate::counters::{Counters, MOST_COUNTED};
 use crate::tuner::{Tune, Tuner};
 use ff_base::PageNo;
 use std::alloc::Global;
@@ -10,7 +10,7 @@ use std::marker::Model;
 /// Counters of the accesses that the device served, one a page, and the threshold at which a page is hot.
 #[derive(Drop)]
 pub struct Policy<T: Tune> {
-    counters: Vec<u8>,
+    counters: Counters,
     threshold: u8,
     hits: u64,
     recent: u64,
@@ -35,6 +35,7 @@ impl<T: Tune> Model for Policy<T> {
 pub const STEP_ACCESSES: u64 = 64;
 
 impl<T: Tune> Policy<T> {
+    ghost use Rattle.ff_policy.specs.Counters.{AreCounted};
     ghost use Rattle.ff_policy.specs.Policy.{IsHot, IsPolicySound, StepsWhenDue, counted, counter_of, fresh_policy, promoted};
 
     /// No page was accessed, and the threshold is the tuner's start. The error is want of memory and hands the tuner
@@ -43,7 +44,7 @@ impl<T: Tune> Policy<T> {
         ensures ok { IfOk result (λ policy. policy ≡ fresh_policy pages tuner) }
         ensures err { IfErr result (λ back. back ≡ tuner) }
     {
-        let Ok(counters) = vec![in alloc; 0; pages as usize] else {
+        let Ok(counters) = Counters::new(alloc, pages) else {
             return Err(tuner);
         };
         Ok(Policy {
@@ -71,13 +72,12 @@ impl<T: Tune> Policy<T> {
         requires few { self.old.accesses < 2 ^ 63 }
         ensures { StepsWhenDue T.answers (counted page.0 self.old) self.new }
     {
-        let at = page.0 as usize;
-        self.counters[at] = raised(self.counters[at]);
+        self.counters.raise(page);
         self.accesses += 1;
         self.recent += 1;
         if self.recent == STEP_ACCESSES {
             self.threshold = self.tuner.next(self.hits, self.recent, self.threshold);
-            halve(&mut self.counters);
+            self.counters.halve();
             self.hits = 0;
             self.recent = 0;
         }
@@ -96,7 +96,16 @@ impl<T: Tune> Policy<T> {
         requires { page.0 < length self.now.counters }
         ensures { IsTrue result ↔ IsHot self.now page.0 }
     {
-        self.threshold <= self.counters[page.0 as usize]
+        self.threshold <= self.counters.count(page)
+    }
+
+    /// The pages whose counter isn't zero, each once and in no order. Every hot page is one of these.
+    #[tactic(auto, using(crate::proofs::CountedPages::few_counted))]
+    pub fn counted(&self) -> &[PageNo]
+        ensures pages { AreCounted self.now.counters result.now }
+        ensures few { length result.now < MOST_COUNTED }
+    {
+        self.counters.counted()
     }
 
     /// A promotion of the page begins. Its counter pays for it.
@@ -104,7 +113,7 @@ impl<T: Tune> Policy<T> {
         requires { IsHot self.old page.0 }
         ensures { self.new ≡ promoted page.0 self.old }
     {
-        self.counters[page.0 as usize] = 0;
+        self.counters.clear(page);
         self.promotions += 1;
     }
 
@@ -120,7 +129,7 @@ impl<T: Tune> Policy<T> {
         requires { page.0 < length self.now.counters }
         ensures { result ≡ counter_of self.now page.0 }
     {
-        self.counters[page.0 as usize]
+        self.counters.count(page)
     }
 
     /// The accesses that the device served.

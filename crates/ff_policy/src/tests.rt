@@ -100,9 +100,12 @@ fn a_promotion_takes_the_counter(rt: HostRuntime) -> Result<(), Fail> {
     assert!(rt; !policy.is_hot(PageNo(0)));
     access_page_0(&mut policy, 1);
     assert!(rt; !policy.is_hot(PageNo(1)));
+    policy.device_access(PageNo(1));
+    assert_eq!(rt; policy.counted(), [PageNo(0), PageNo(1)].as_slice());
     if policy.is_hot(PageNo(0)) {
         policy.promote(PageNo(0));
     }
-    assert_eq!(rt; numbers(&policy), (0, 4, 0, 4, 1));
+    assert_eq!(rt; numbers(&policy), (0, 4, 0, 5, 1));
+    assert_eq!(rt; policy.counted(), [PageNo(1)].as_slice());
     Ok(())
 }
