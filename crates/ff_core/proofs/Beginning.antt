@@ -18,11 +18,13 @@ use Rattle.ff_store.specs.PageStore.{PageStoreView, new_store}
 use Rattle.ff_window.specs.Window.{WindowView}
 use Rattle.ff_core.specs.Fresh.{fresh_device}
 
-none-held : (count page : ℕ) → held (replicate count empty_slot) page ≡ None
+-- an empty cache holds no page
+pub none-held : (count page : ℕ) → held (replicate count empty_slot) page ≡ None
 none-held zero page = refl
 none-held (suc count) page = none-held count page
 
-none-stored : (count page : ℕ) (cells : List Cell)
+-- no page is mapped
+pub none-stored : (count page : ℕ) (cells : List Cell)
     → slice_index_or (map (λ (m : Option Mapping). bytes_at cells m) (replicate count None)) page None ≡ None
 none-stored zero page cells = refl
 none-stored (suc count) zero cells = refl

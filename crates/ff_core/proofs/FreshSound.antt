@@ -1,16 +1,11 @@
 -- A first session is sound.
-use Rattle.std.proofs.Common.{◌≡◌, ◌≤◌, ◌<◌, ◌-◌, ◌*◌, ◌^◌, ℕ, List, Option, None, get_or, map, replicate, refl, sym, ap, ◌∙◌, subst, inl, inr, arith}
-use Rattle.std.proofs.lemmas.Bool.{cases_lt}
-use Rattle.std.proofs.Math.ListN.{get_or-map}
-use Rattle.std.proofs.lemmas.List.{get_or-replicate, get_or_past, length-map, length-replicate}
+use Rattle.std.proofs.Common.{◌≡◌, ◌≤◌, ◌<◌, ◌-◌, ◌*◌, ◌^◌, ℕ, Option, None, replicate, refl, sym, ap, ◌∙◌, subst, arith}
+use Rattle.std.proofs.lemmas.List.{length-map, length-replicate}
 use Rattle.ff_base.specs.Geometry.{IsWithinLimits}
 use Rattle.ff_base.specs.declared.geometry.Geometry.{Geometry}
-use Rattle.ff_cache.specs.Slots.{empty_slot, held, holds}
 use Rattle.ff_cache.specs.declared.slot.Slot.{Slot}
-use Rattle.ff_cache.proofs.Held.{held_none}
 use Rattle.ff_calls.proofs.ToldFresh.{IsFreshDevice, told-fresh, zero-line_or_blank}
 use Rattle.ff_evict.specs.Picker.{PickerView}
-use Rattle.ff_flash.specs.Cells.{Cell}
 use Rattle.ff_flash.specs.FlashState.{FlashState}
 use Rattle.ff_frames.specs.Frame.{free_frame}
 use Rattle.ff_map.specs.declared.places.Mapping.{Mapping}
@@ -25,35 +20,17 @@ use Rattle.ff_core.specs.Core.{CoreView}
 use Rattle.ff_core.specs.CoreSound.{IsCoreSound, IsCounted, IsSized, IsTimed}
 use Rattle.ff_core.specs.Fresh.{IsFreshFlash, fresh_core, fresh_device}
 use Rattle.ff_core.specs.declared.core_state.Room.{Room}
-
-all-alike : {A : Type 0} (n i : ℕ) (a : A) → get_or (replicate n a) i a ≡ a
-all-alike {A} n i a = elim (cases_lt i n) [
-  | inl within ↦ get_or-replicate n i a a within
-  | inr past ↦ get_or_past (replicate n a) i a (omega (arith, length-replicate n a))
-]
-
--- an empty cache holds no page
-held-empty : (count page : ℕ) → held (replicate count empty_slot) page ≡ None
-held-empty count page =
-    held_none (replicate count empty_slot) page
-    (λ k low. ap (λ (slot : Slot). holds slot page) (all-alike count k empty_slot))
-
--- no page is mapped
-stored-none : (cells : List Cell) (pages page : ℕ)
-    → get_or (map (λ (m : Option Mapping). bytes_at cells m) (replicate pages None)) page None ≡ None
-stored-none cells pages page =
-    get_or-map (λ (m : Option Mapping). bytes_at cells m) (replicate pages None) page None
-    ∙ ap (λ (m : Option Mapping). bytes_at cells m) (all-alike pages page None)
+use Rattle.ff_core.proofs.Beginning.{none-held, none-stored}
 
 -- the parts of a device over an erased flash
 abbrev fresh_parts : FlashState → Geometry → Parts
 fresh_parts flash g = parts_of (fresh_device flash g)
 
 cached-none : (flash : FlashState) (g : Geometry) (page : ℕ) → cached (fresh_parts flash g) page ≡ None
-cached-none flash g page = held-empty (g.sets * g.ways) page
+cached-none flash g page = none-held (g.sets * g.ways) page
 
 unstored : (flash : FlashState) (g : Geometry) (page : ℕ) → stored_in (fresh_parts flash g).store page ≡ None
-unstored flash g page = stored-none flash.cells g.pages page
+unstored flash g page = none-stored g.pages page flash.cells
 
 fresh-device : (flash : FlashState) (g : Geometry)
     → IsFreshDevice (opening_of (empty_content g.pages) g 0 flash.faults) (lines_in (fresh_device flash g))
