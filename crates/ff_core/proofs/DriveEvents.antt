@@ -1,5 +1,5 @@
 -- What one event of a call makes of a core.
-use Rattle.std.proofs.Common.{◌≡◌, ◌<◌, ◌≤◌, ◌+◌, ◌==◌, ℕ, Bool, true, false, not, List, length, Option, Some, None, refl, sym, ap, ◌∙◌, arith}
+use Rattle.std.proofs.Common.{◌≡◌, ◌<◌, ◌≤◌, ◌+◌, ◌==◌, ℕ, Bool, true, false, not, length, Option, Some, None, refl, sym, ap, ◌∙◌, arith}
 use Rattle.std.specs.Prelude.{if◌then◌else◌}
 use Rattle.std.proofs.Math.Nat.{min-le_left}
 use Rattle.std.proofs.Math.Arith.{lt_of_le-ne}
@@ -8,26 +8,25 @@ use Rattle.std.proofs.lemmas.Option.{none-some}
 use Rattle.ff_base.specs.Count.{last_event}
 use Rattle.ff_base.specs.declared.numbers.Caller.{Caller}
 use Rattle.ff_base.specs.declared.numbers.PageNo.{PageNo}
-use Rattle.ff_calls.proofs.ToldMissed.{HasMissed, told-missed}
-use Rattle.ff_lines.specs.DeviceState.{DeviceState, IsDevice}
-use Rattle.ff_memory.specs.Memory.{IsMemorySound, MemoryView}
+use Rattle.ff_calls.proofs.ToldMissed.{told-missed}
+use Rattle.ff_lines.specs.DeviceState.{IsDevice}
+use Rattle.ff_memory.specs.Memory.{IsMemorySound}
 use Rattle.ff_memory.specs.declared.access.Access.TheVariants.{Miss as AccessMiss}
 use Rattle.ff_memory.specs.declared.access.Side.{Side}
 use Rattle.ff_memory.specs.declared.access.Side.TheVariants.{Device, Host, Neither}
-use Rattle.ff_model.specs.History.{Entries}
 use Rattle.ff_model.specs.Spans.{is_in_range}
 use Rattle.ff_model.specs.declared.op.Op.{Op}
 use Rattle.ff_model.specs.declared.op.Reply.{Reply}
 use Rattle.ff_model.specs.declared.op.Reply.TheVariants.{Range, Spent, Fault}
 use Rattle.ff_policy.specs.Policy.{PolicyView, StepsWhere, counted}
 use Rattle.ff_store.specs.PageStore.{PageStoreView}
-use Rattle.ff_core.specs.Core.{CoreView, next_number, with_entry}
+use Rattle.ff_core.specs.Core.{CoreView, next_number}
 use Rattle.ff_core.specs.CoreSound.{IsCoreSound}
-use Rattle.ff_core.specs.Drives.{AnswersOrLeaves, IsEvent, SameSession, cut, served}
+use Rattle.ff_core.specs.Drives.{AnswersOrLeaves, IsEvent, cut, served}
 use Rattle.ff_core.specs.EventsLeft.{events_left}
 use Rattle.ff_core.specs.Hierarchy.{HierarchyView, flash_of, lines_under}
 use Rattle.ff_core.specs.Serving.{IsAccess, PolicyAfter, page_asked}
-use Rattle.ff_core.specs.Turns.{AfterStep, IsAttempt, IsMiss, IsMissStep, IsServed, IsTurn, IsTurnBy, answered, misses, refusal, serves}
+use Rattle.ff_core.specs.Turns.{AfterStep, IsAttempt, IsMiss, IsServed, IsTurn, IsTurnBy, answered, misses, refusal, serves}
 use Rattle.ff_core.specs.declared.action.Action.{Action}
 use Rattle.ff_core.specs.declared.action.Progress.{Progress}
 use Rattle.ff_core.specs.declared.action.Progress.TheVariants.{Did, Failed, Off as ProgressOff}

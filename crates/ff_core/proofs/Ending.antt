@@ -1,5 +1,5 @@
 -- What the record of a session keeps.
-use Rattle.std.proofs.Common.{◌≡◌, ◌+◌, ◌-◌, ◌≤◌, ℕ, subst, sym, ap, refl, ◌∙◌, arith}
+use Rattle.std.proofs.Common.{◌≡◌, ◌≤◌, subst, refl, arith}
 use Rattle.ff_model.specs.Legal.{IsLegal, Opening, next_event}
 use Rattle.ff_core.specs.Core.{CoreView}
 use Rattle.ff_core.specs.CoreSound.{IsCoreSound}

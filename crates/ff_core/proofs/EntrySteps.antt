@@ -1,15 +1,14 @@
 -- What a step of a page in flight leaves of its entry.
-use Rattle.std.proofs.Common.{◌≡◌, ◌≢◌, ◌<◌, ◌≤◌, ◌==◌, ℕ, Bool, true, false, List, length, Option, Some, None, inl, inr, refl, sym, ap, ◌∙◌, arith, length-set}
+use Rattle.std.proofs.Common.{◌≡◌, ◌≢◌, ◌<◌, ℕ, Bool, true, false, List, length, Option, Some, None, inl, inr, refl, sym, ap, ◌∙◌, arith, length-set}
 use Rattle.std.specs.Option.{is_some}
 use Rattle.std.proofs.lemmas.Bool.{cases_eq}
 use Rattle.std.proofs.lemmas.Grind.{get_or-set_at}
 use Rattle.std.proofs.lemmas.List.{get_or-set_other}
 use Rattle.std.proofs.lemmas.Option.{none-some, same_Some}
-use Rattle.ff_cache.specs.Cache.{all_below}
 use Rattle.ff_cache.proofs.Full.{all_below_at, all_below_true}
 use Rattle.ff_lines.specs.DeviceState.{DeviceState}
 use Rattle.ff_lines.specs.LineMask.{has_line}
-use Rattle.ff_memory.specs.Advances.{Advances, AdvancesBy, FinishesOrLifts, IsFinished, IsLifted, LandsBy, finished_by, source_line}
+use Rattle.ff_memory.specs.Advances.{Advances, AdvancesBy, FinishesOrLifts, IsLifted, LandsBy, finished_by, source_line}
 use Rattle.ff_memory.specs.Memory.{IsMemorySound, MemoryView, entry_at, home_at}
 use Rattle.ff_memory.specs.declared.access.What.{What}
 use Rattle.ff_memory.specs.declared.access.What.TheVariants.{Finished, Landed, Dropped, Lifted, Started, Worked, Drained, Sealed, Collected}

@@ -1,26 +1,20 @@
 -- Sets of the cache that pinned pages keep, and what a step of work makes of them.
-use Rattle.std.proofs.Common.{◌≡◌, ◌<◌, ◌≤◌, ◌+◌, ◌-◌, ◌*◌, ◌%◌, ◌&&◌, ℕ, zero, suc, Bool, true, false, not, List, length, Option, Some, None, inl, inr, refl, sym, ap, ◌∙◌, arith, get_or-set_same}
-use Rattle.std.specs.Option.{is_none, is_some}
+use Rattle.std.proofs.Common.{◌≡◌, ◌<◌, ◌+◌, ◌-◌, ◌*◌, ◌%◌, ℕ, zero, suc, Bool, true, false, List, length, Option, Some, None, refl, sym, ap, ◌∙◌, arith}
+use Rattle.std.specs.Option.{is_none}
 use Rattle.std.proofs.Math.Nat.{mod-lt}
-use Rattle.std.proofs.lemmas.Bool.{and_parts, eq-eqb}
+use Rattle.std.proofs.lemmas.Bool.{eq-eqb}
 use Rattle.ff_base.specs.declared.numbers.PageNo.{PageNo}
-use Rattle.ff_cache.specs.Cache.{CacheView, all_below, first_of, way_at, IsCacheSound, IsEmptyWay, IsInSet}
-use Rattle.ff_cache.specs.Slots.{cache_slot_at, empty_slot, held, is_empty, slot_filled}
+use Rattle.ff_cache.specs.Cache.{CacheView, all_below, first_of, way_at, IsCacheSound, IsInSet}
+use Rattle.ff_cache.specs.Slots.{cache_slot_at, slot_filled}
 use Rattle.ff_cache.specs.declared.slot.Slot.{Slot}
-use Rattle.ff_cache.proofs.Full.{all_below_at, all_below_false, all_below_true}
+use Rattle.ff_cache.proofs.Full.{all_below_false, all_below_true}
 use Rattle.ff_cache.proofs.Sets.{set_fits, slot_of_page}
 use Rattle.ff_lines.specs.DeviceState.{DeviceState}
 use Rattle.ff_lines.specs.PageSets.{SameSet}
-use Rattle.ff_lines.specs.declared.device.Work.TheVariants.{Stepped}
-use Rattle.ff_lines.specs.declared.post.Post.{Post}
 use Rattle.ff_device.specs.Device.{lines_of}
 use Rattle.ff_device.specs.Draining.{SameFrames}
-use Rattle.ff_device.specs.Parts.{Parts, is_resident}
-use Rattle.ff_device.specs.Steps.{may_go}
-use Rattle.ff_device.specs.WorkRows.{FetchRow, FlushRow, HasSealed, IsFetched, IsPinnedSet, IsRaised, IsWorkStep}
-use Rattle.ff_device.specs.WorkRows.{seals, fills, no_way, replaces, flushes}
-use Rattle.ff_device.proofs.Choices.{values_size}
-use Rattle.ff_device.proofs.Frames.{frames_by}
+use Rattle.ff_device.specs.Parts.{Parts}
+use Rattle.ff_device.specs.WorkRows.{IsPinnedSet}
 use Rattle.ff_core.specs.EventsLeft.{is_kept_set, is_pinned_page}
 
 -- a slot's pin is its page's

@@ -1,9 +1,9 @@
 -- A step of work leaves a set that pinned pages keep, but for the seal of a flush, and keeps no other.
-use Rattle.std.proofs.Common.{◌≡◌, ◌<◌, ◌+◌, ◌*◌, ◌%◌, ◌&&◌, ℕ, Bool, true, false, not, List, length, Option, Some, None, inl, inr, refl, sym, ap, ◌∙◌, arith, get_or-set_same}
+use Rattle.std.proofs.Common.{◌≡◌, ◌<◌, ◌%◌, ℕ, Bool, true, false, not, List, length, Option, Some, None, inl, inr, refl, sym, ap, ◌∙◌, arith, get_or-set_same}
 use Rattle.std.specs.Option.{is_some}
 use Rattle.std.proofs.Math.Nat.{mod-lt}
 use Rattle.std.proofs.lemmas.Bool.{and_parts}
-use Rattle.ff_cache.specs.Cache.{CacheView, IsCacheSound, IsInSet, first_of, way_at}
+use Rattle.ff_cache.specs.Cache.{CacheView, IsCacheSound, IsInSet, way_at}
 use Rattle.ff_cache.specs.Slots.{cache_slot_at, empty_slot, slot_filled, slot_flushed, slot_flushing}
 use Rattle.ff_cache.specs.declared.slot.Slot.{Slot}
 use Rattle.ff_cache.proofs.Sets.{set_fits}
@@ -11,7 +11,6 @@ use Rattle.ff_lines.specs.PageSets.{SameSet}
 use Rattle.ff_lines.specs.declared.device.Work.TheVariants.{Stepped}
 use Rattle.ff_lines.specs.declared.post.Post.{Post}
 use Rattle.ff_device.specs.Device.{lines_of}
-use Rattle.ff_device.specs.Draining.{SameFrames}
 use Rattle.ff_device.specs.Parts.{Parts, is_resident, slot_passes}
 use Rattle.ff_device.specs.Steps.{may_go, may_go_at, page_waits}
 use Rattle.ff_device.specs.StoreState.{stored_bytes}

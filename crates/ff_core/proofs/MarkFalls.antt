@@ -1,40 +1,28 @@
 -- A step for a mark leaves fewer events until its page is home.
-use Rattle.std.proofs.Common.{◌≡◌, ◌≢◌, ◌<◌, ◌≤◌, ◌+◌, ℕ, Bool, true, false, List, length, Option, Some, None, inl, inr, refl, sym, ap, ◌∙◌, arith}
-use Rattle.std.specs.Option.{is_none, is_some}
+use Rattle.std.proofs.Common.{◌≡◌, ◌<◌, ◌≤◌, ◌+◌, ℕ, Bool, true, false, length, Option, Some, None, refl, sym, ap, ◌∙◌, arith}
+use Rattle.std.specs.Option.{is_none}
 use Rattle.std.specs.Prelude.{if◌then◌else◌}
-use Rattle.std.proofs.lemmas.Bool.{cases_Bool, cases_lt}
-use Rattle.std.proofs.lemmas.List.{get_or_past}
-use Rattle.std.proofs.lemmas.Option.{none-some}
-use Rattle.ff_base.specs.declared.numbers.PageNo.{PageNo}
-use Rattle.ff_cache.specs.Cache.{all_below}
-use Rattle.ff_cache.proofs.Full.{all_below_at, all_below_true}
 use Rattle.ff_frames.specs.Frames.{frame_at}
-use Rattle.ff_memory.specs.Advances.{Advances}
-use Rattle.ff_memory.specs.Begins.{IsRetreated, turned_at, turned_by}
+use Rattle.ff_memory.specs.Begins.{turned_at, turned_by}
 use Rattle.ff_memory.specs.Memory.{IsMemorySound, MemoryView, entry_at, home_at}
 use Rattle.ff_memory.specs.Places.{frame_of_page, is_home}
-use Rattle.ff_memory.specs.declared.access.What.{What}
 use Rattle.ff_memory.proofs.Finishes.{home-here}
-use Rattle.ff_plb.specs.Plb.{HasEntry, IsEmpty, IsFound, IsNoneEmpty, entry_of, slot_at, with_slot}
+use Rattle.ff_plb.specs.Plb.{HasEntry, IsFound}
 use Rattle.ff_plb.specs.Slot.{after_turn}
 use Rattle.ff_plb.specs.declared.slot.Slot.{Slot}
 use Rattle.ff_plb.specs.declared.slot.Way.{Way}
 use Rattle.ff_plb.specs.declared.slot.Way.TheVariants.{Coming, Leaving}
-use Rattle.ff_plb.proofs.Entries.{apart-begin, apart-same, entry-at, entry-now}
+use Rattle.ff_plb.proofs.Entries.{apart-same, entry-now}
 use Rattle.ff_table.specs.Table.{PageTableView, home_of as home_of_page, with_home}
 use Rattle.ff_table.specs.declared.table.Home.{Home}
 use Rattle.ff_table.specs.declared.table.Home.TheVariants.{Ssd}
-use Rattle.ff_core.specs.EventsLeft.{entry_events, entry_steps, events_to, flight_events, home_events, is_full_buffer, most_events_to, most_slot_steps, rest_events, slot_steps}
-use Rattle.ff_core.specs.Hierarchy.{HierarchyView, lines_under}
-use Rattle.ff_core.specs.Misses.{IsActionAtRest, IsMarkAction, action_in_flight, at_rest, in_flight, retreats, waits_for_slot, works}
-use Rattle.ff_core.specs.Performs.{HasRetreated, IsAdvanced, IsTurnedBack, IsWorkedFor, Performs}
-use Rattle.ff_core.specs.declared.action.Action.{Action}
-use Rattle.ff_core.specs.declared.action.Action.TheVariants.{Advance, TurnBack, Work as WorkFor, Retreat}
+use Rattle.ff_core.specs.EventsLeft.{entry_events, entry_steps, flight_events, home_events, most_slot_steps}
+use Rattle.ff_core.specs.Hierarchy.{HierarchyView}
+use Rattle.ff_core.specs.Performs.{IsAdvanced, IsTurnedBack}
 use Rattle.ff_core.specs.declared.action.Progress.{Progress}
-use Rattle.ff_core.specs.declared.action.Progress.TheVariants.{Did}
-use Rattle.ff_core.proofs.EntrySteps.{IsStepped, entry_step, stepped_here, stepped_slot}
+use Rattle.ff_core.proofs.EntrySteps.{IsStepped, stepped_here}
 use Rattle.ff_core.proofs.LinesLeft.{entry_most, entry_some}
-use Rattle.ff_core.proofs.WorkFalls.{IsStepGiven, LeavesPage, advanced_step, events_most, step_leaves, worked_falls, worked_leaves}
+use Rattle.ff_core.proofs.WorkFalls.{advanced_step}
 
 home_by : (home : Bool) (n : ℕ) → (if home then 0 else n) ≤ n
 home_by true n = omega arith

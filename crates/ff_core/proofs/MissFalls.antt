@@ -1,11 +1,10 @@
 -- A step for a call that missed leaves fewer events.
-use Rattle.std.proofs.Common.{◌≡◌, ◌<◌, ◌≤◌, ◌+◌, ◌*◌, ℕ, Bool, true, false, List, Option, Some, None, refl, sym, ap, ◌∙◌, arith}
+use Rattle.std.proofs.Common.{◌≡◌, ◌<◌, ◌≤◌, ◌+◌, ◌*◌, ℕ, Bool, true, false, Option, Some, None, refl, ap, ◌∙◌, arith}
 use Rattle.std.specs.Prelude.{if◌then◌else◌}
 use Rattle.ff_base.specs.declared.geometry.Geometry.{Geometry}
 use Rattle.ff_base.specs.declared.numbers.PageNo.{PageNo}
-use Rattle.ff_cache.specs.Cache.{way_at}
 use Rattle.ff_calls.proofs.ToldMissed.{Finds}
-use Rattle.ff_device.specs.Device.{own_of, parts_of}
+use Rattle.ff_device.specs.Device.{own_of}
 use Rattle.ff_lines.specs.DeviceState.{DeviceState}
 use Rattle.ff_memory.specs.Memory.{MemoryView, entry_at}
 use Rattle.ff_memory.specs.Places.{is_home, page_of}
@@ -14,7 +13,7 @@ use Rattle.ff_model.specs.declared.op.Op.{Op}
 use Rattle.ff_model.specs.declared.op.Op.TheVariants.{Load, Store, Verify, Mark, Release}
 use Rattle.ff_plb.specs.declared.slot.Slot.{Slot}
 use Rattle.ff_core.specs.Drives.{most_events}
-use Rattle.ff_core.specs.EventsLeft.{entry_events, entry_of_some, events_by, events_left, events_to, home_events, is_full_buffer, is_kept_set, rest_events, slot_steps}
+use Rattle.ff_core.specs.EventsLeft.{entry_events, events_by, events_left, events_to, home_events, is_full_buffer, is_kept_set, rest_events}
 use Rattle.ff_core.specs.Hierarchy.{HierarchyView, lines_under}
 use Rattle.ff_core.specs.Misses.{IsMissAction}
 use Rattle.ff_core.specs.Performs.{IsWorkedFor, Performs}

@@ -1,23 +1,20 @@
 -- What a step for a missed call leaves, and that it makes at most one operation.
 use Rattle.std.proofs.Common.{◌≡◌, ◌≤◌, ◌+◌, ℕ, true, false, refl, sym, ap, ◌∙◌, arith}
 use Rattle.ff_base.specs.declared.numbers.PageNo.{PageNo}
-use Rattle.ff_evict.specs.Evictor.{EvictorView}
 use Rattle.ff_lines.specs.declared.device.Work.{Work}
 use Rattle.ff_lines.specs.declared.device.Work.TheVariants.{Ready, Stepped, Failed as WorkFailed, Off as WorkOff, Pinned}
 use Rattle.ff_model.specs.declared.op.Op.{Op}
 use Rattle.ff_model.specs.declared.op.Op.TheVariants.{Load, Store, Verify, Mark, Release}
 use Rattle.ff_plb.specs.declared.slot.Way.{Way}
 use Rattle.ff_plb.specs.declared.slot.Way.TheVariants.{Coming, Leaving}
-use Rattle.ff_policy.specs.Policy.{PolicyView}
 use Rattle.ff_store.specs.Calls.{SameStore}
 use Rattle.ff_store.specs.PageStore.{PageStoreView}
 use Rattle.ff_core.specs.Hierarchy.{HierarchyView, flash_of}
 use Rattle.ff_core.specs.Misses.{IsActionAtRest, IsMarkAction, IsMissAction, action_in_flight, at_rest, in_flight, retreats, waits_for_slot, works}
-use Rattle.ff_core.specs.Performs.{HasRetreated, IsAdvanced, IsDeviceStep, IsMoved, IsTurnedBack, IsWorkedFor, Performs, progress_of, steps, yields}
+use Rattle.ff_core.specs.Performs.{HasRetreated, IsAdvanced, IsDeviceStep, IsTurnedBack, IsWorkedFor, Performs, progress_of, steps, yields}
 use Rattle.ff_core.specs.declared.action.Action.{Action}
-use Rattle.ff_core.specs.declared.action.Action.TheVariants.{Advance, TurnBack, Work as WorkFor, Retreat}
 use Rattle.ff_core.specs.declared.action.Progress.{Progress}
-use Rattle.ff_core.specs.declared.action.Progress.TheVariants.{Did, Failed, Off}
+use Rattle.ff_core.specs.declared.action.Progress.TheVariants.{Off}
 
 -- what a step leaves of a hierarchy, and what it makes of its flash
 pub record RunsStep {T E : Type 0} (h : HierarchyView T E) (progress : Progress) (h' : HierarchyView T E) : Type 0 where

@@ -1,18 +1,16 @@
 -- A step for a mark of a page at rest in a frame leaves fewer events until the page is home.
-use Rattle.std.proofs.Common.{◌≡◌, ◌≢◌, ◌<◌, ◌≤◌, ◌+◌, ℕ, Bool, true, false, List, length, Option, Some, None, inl, inr, refl, sym, ap, ◌∙◌, arith}
+use Rattle.std.proofs.Common.{◌≡◌, ◌<◌, ◌≤◌, ◌+◌, ℕ, Bool, true, false, List, length, Option, Some, None, inl, inr, refl, sym, ap, ◌∙◌, arith}
 use Rattle.std.specs.Option.{is_some}
-use Rattle.std.proofs.lemmas.Bool.{cases_Bool, cases_lt, false_from_ne_true}
+use Rattle.std.proofs.lemmas.Bool.{cases_lt, false_from_ne_true}
 use Rattle.std.proofs.lemmas.List.{get_or_past}
 use Rattle.std.proofs.lemmas.Option.{none-some, same_Some}
 use Rattle.ff_base.specs.declared.numbers.PageNo.{PageNo}
-use Rattle.ff_cache.specs.Cache.{all_below}
 use Rattle.ff_cache.proofs.Full.{all_below_at, all_below_true}
 use Rattle.ff_frames.specs.Frames.{frame_at}
 use Rattle.ff_lines.specs.DeviceState.{DeviceState}
 use Rattle.ff_lines.specs.LineMask.{mask_others}
 use Rattle.ff_memory.specs.Advances.{Advances}
-use Rattle.ff_memory.specs.Begins.{IsRetreated}
-use Rattle.ff_memory.specs.Memory.{IsMemorySound, MemoryView, entry_at, numbered}
+use Rattle.ff_memory.specs.Memory.{MemoryView, entry_at, numbered}
 use Rattle.ff_memory.specs.Places.{is_home}
 use Rattle.ff_memory.specs.declared.access.What.{What}
 use Rattle.ff_memory.proofs.Flights.{page-within}
@@ -26,13 +24,12 @@ use Rattle.ff_core.specs.Hierarchy.{HierarchyView, lines_under}
 use Rattle.ff_core.specs.Misses.{IsActionAtRest, IsMarkAction, action_in_flight, at_rest, in_flight, retreats, waits_for_slot, works}
 use Rattle.ff_core.specs.Performs.{HasRetreated, IsAdvanced, IsWorkedFor, Performs}
 use Rattle.ff_core.specs.declared.action.Action.{Action}
-use Rattle.ff_core.specs.declared.action.Action.TheVariants.{Advance, TurnBack, Work as WorkFor, Retreat}
 use Rattle.ff_core.specs.declared.action.Progress.{Progress}
 use Rattle.ff_core.specs.declared.action.Progress.TheVariants.{Did}
 use Rattle.ff_core.proofs.EntrySteps.{IsStepped, entry_step, stepped_slot}
 use Rattle.ff_core.proofs.LinesLeft.{entry_most}
 use Rattle.ff_core.proofs.MarkFalls.{away_is, events_at_most, left_falls, turned_falls}
-use Rattle.ff_core.proofs.WorkFalls.{IsStepGiven, LeavesPage, events_most, slot_most, step_leaves, worked_falls, worked_leaves}
+use Rattle.ff_core.proofs.WorkFalls.{IsStepGiven, events_most, slot_most, step_leaves, worked_falls, worked_leaves}
 
 some_of : (found : Option Slot) → (found ≡ None → ⊥) → is_some found ≡ true
 some_of None none = absurd (none refl)

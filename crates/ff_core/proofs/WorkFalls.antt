@@ -1,5 +1,5 @@
 -- A step of work for a page leaves fewer events until it is resident.
-use Rattle.std.proofs.Common.{◌≡◌, ◌≢◌, ◌<◌, ◌≤◌, ◌+◌, ◌*◌, ◌%◌, ℕ, Bool, true, false, List, map, Option, Some, None, inl, inr, refl, sym, ap, ◌∙◌, arith}
+use Rattle.std.proofs.Common.{◌≡◌, ◌≢◌, ◌<◌, ◌≤◌, ◌+◌, ◌*◌, ◌%◌, ℕ, Bool, true, false, Option, Some, None, inl, inr, refl, sym, ap, ◌∙◌, arith}
 use Rattle.std.specs.Prelude.{get_or, if◌then◌else◌}
 use Rattle.std.specs.Option.{is_some}
 use Rattle.std.proofs.Math.ListN.{get_or-map}
@@ -20,11 +20,11 @@ use Rattle.ff_memory.specs.Memory.{IsMemorySound, MemoryView, entry_at, home_at}
 use Rattle.ff_memory.specs.declared.access.What.{What}
 use Rattle.ff_plb.specs.Plb.{IsFound, entry_of, slot_at}
 use Rattle.ff_plb.specs.declared.slot.Slot.{Slot}
-use Rattle.ff_core.specs.EventsLeft.{entry_of_some, entry_steps, events_by, events_to, is_full_buffer, is_kept_set, keeper_steps, most_events_to, most_slot_steps, seals_left, slot_steps}
+use Rattle.ff_core.specs.EventsLeft.{entry_of_some, entry_steps, events_by, events_to, is_full_buffer, is_kept_set, keeper_steps, most_events_to, seals_left, slot_steps}
 use Rattle.ff_core.specs.Hierarchy.{HierarchyView, lines_under}
 use Rattle.ff_core.specs.Performs.{IsAdvanced, IsDeviceStep, IsWorkedFor, progress_of, steps, yields}
 use Rattle.ff_core.specs.declared.action.Progress.{Progress}
-use Rattle.ff_core.specs.declared.action.Progress.TheVariants.{Did, Failed, Off}
+use Rattle.ff_core.specs.declared.action.Progress.TheVariants.{Did}
 use Rattle.ff_core.proofs.EntrySteps.{IsStepped, entry_step, stepped_full, stepped_here, stepped_other}
 use Rattle.ff_core.proofs.KeptSets.{pinned_kept}
 use Rattle.ff_core.proofs.KeptSteps.{kept_sealed, step_free}
