@@ -14,7 +14,7 @@ use Rattle.ff_model.specs.Legal.{Opening}
 use Rattle.ff_model.specs.declared.history.Entry.{Entry}
 use Rattle.ff_device.specs.Device.{lines_in}
 use Rattle.ff_core.specs.Hierarchy.{HierarchyView, lines_under}
-use Rattle.ff_core.specs.Performs.{HasDrained, HasEvicted, IsAdvanced, IsTurnedBack, IsWorkedFor, Performs, steps, yields}
+use Rattle.ff_core.specs.Performs.{DrainsOldest, HasEvicted, IsAdvanced, IsTurnedBack, IsWorkedFor, Performs, steps, yields}
 use Rattle.ff_core.specs.declared.action.Action.{Action}
 use Rattle.ff_core.specs.declared.action.Action.TheVariants.{Advance, TurnBack, Work, Promote, Retreat, Evict, Collect, Drain}
 use Rattle.ff_core.specs.declared.action.Progress.{Progress}
@@ -65,7 +65,7 @@ evicted-tells opening entries frame h progress h' told is =
     (lines_under h') told is.step is.passed is.moved.located is.moved.places
 
 drained-tells : {T E : Type 0} (opening : Opening) (entries : List Entry) (h : HierarchyView T E) (progress : Progress)
-    (h' : HierarchyView T E) → Tells opening entries h → IsDevice (lines_under h) → HasDrained h progress h'
+    (h' : HierarchyView T E) → Tells opening entries h → IsDevice (lines_under h) → DrainsOldest h progress h'
     → Tells opening entries h'
 drained-tells {T} {E} opening entries h progress h' told device is =
     let memory = ap (λ (x : HierarchyView T E). x.memory) is.rest in

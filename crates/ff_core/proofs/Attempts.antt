@@ -10,7 +10,7 @@ use Rattle.ff_model.specs.declared.op.Reply.{Reply}
 use Rattle.ff_policy.specs.Policy.{PolicyView}
 use Rattle.ff_core.specs.Core.{CoreView, entry_now, next_number, with_entry}
 use Rattle.ff_core.specs.CoreSound.{IsCoreSound}
-use Rattle.ff_core.specs.Hierarchy.{HierarchyView, flash_of}
+use Rattle.ff_core.specs.Hierarchy.{HierarchyView, flash_under}
 use Rattle.ff_core.specs.Serving.{IsAccess, PolicyAfter, page_asked}
 use Rattle.ff_core.specs.Tally.{served_by}
 use Rattle.ff_core.specs.Turns.{IsAttempt, IsMissStep, IsTurn, IsTurnBy, answered, refusal}
@@ -42,7 +42,7 @@ pub attempt-served : {T E : Type 0} (answers : T → ℕ → ℕ → ℕ → ℕ
     → IsAttempt answers old caller number op turn new
 attempt-served answers old new between caller number op position reply side turn at is says policy core =
     let same : between.policy ≡ old.hierarchy.policy = ap (λ (v : HierarchyView _ _). v.policy) is.rest in
-    let faults : (flash_of between).faults ≡ (flash_of old.hierarchy).faults = ap (λ s. s.world.flash.faults) is.store in
+    let faults : (flash_under between).faults ≡ (flash_under old.hierarchy).faults = ap (λ s. s.world.flash.faults) is.store in
     IsAttempt.serves reply says record {
       side = side;
       between = between;
@@ -72,9 +72,9 @@ attempt-missed answers old new between caller number op position page turn at is
 
 -- with the power on, a call that isn't refused at once has its event
 pub attempt-turn : {T E : Type 0} (answers : T → ℕ → ℕ → ℕ → ℕ → Type 0) (old new : CoreView T E) (caller : Caller) (number : ℕ)
-    (op : Op) (turn : Turn) → true ≡ (flash_of old.hierarchy).on → None ≡ refusal old.opening.pages old.events op
+    (op : Op) (turn : Turn) → true ≡ (flash_under old.hierarchy).on → None ≡ refusal old.opening.pages old.events op
     → IsAttempt answers old caller number op turn new
-    → IsTurn (flash_of old.hierarchy).on answers old caller number op turn new
+    → IsTurn (flash_under old.hierarchy).on answers old caller number op turn new
 attempt-turn answers old new caller number op turn on allowed attempt =
     subst (λ (b : Bool). IsTurn b answers old caller number op turn new) on
     (subst (λ (r : Option Reply). IsTurnBy r answers old caller number op turn new) allowed attempt)

@@ -8,11 +8,11 @@ use Rattle.ff_memory.specs.Memory.{IsMemorySound}
 use Rattle.ff_memory.specs.declared.access.What.{What}
 use Rattle.ff_model.specs.declared.counts.Kind.{Kind}
 use Rattle.ff_model.specs.declared.counts.Kind.TheVariants.{Promote as PromoteKind, Evict as EvictKind, Collect as CollectKind, Drain as DrainKind}
-use Rattle.ff_core.specs.Backs.{IsBack, IsBackAt, IsBackBy, back_of, core_after, rested, turned_now, with_turn}
+use Rattle.ff_core.specs.Backs.{IsBack, IsBackAt, IsBackBy, back_of, core_after, rested, turned_now, with_logged}
 use Rattle.ff_core.specs.Choices.{IsChoice}
 use Rattle.ff_core.specs.Core.{CoreView, next_number}
 use Rattle.ff_core.specs.CoreSound.{IsCoreSound, is_failed, is_promotion_by}
-use Rattle.ff_core.specs.Hierarchy.{HierarchyView, flash_of, lines_under}
+use Rattle.ff_core.specs.Hierarchy.{HierarchyView, flash_under, lines_under}
 use Rattle.ff_core.specs.Performs.{Performs}
 use Rattle.ff_core.specs.Tally.{tally_after}
 use Rattle.ff_core.specs.declared.action.Action.{Action}
@@ -57,10 +57,10 @@ failed-unpromoted CollectKind = refl
 failed-unpromoted DrainKind = refl
 
 -- a turn that did nothing
-rested-sound : {T E : Type 0} (old : CoreView T E) (kind : Kind) (back : Back) → IsCoreSound old → (flash_of old.hierarchy).on ≡ true
+rested-sound : {T E : Type 0} (old : CoreView T E) (kind : Kind) (back : Back) → IsCoreSound old → (flash_under old.hierarchy).on ≡ true
     → is_promotion_by kind back ≡ false → is_failed back ≡ false → IsCoreSound (rested old kind back)
 rested-sound old kind back sound on none well =
-    sound-over old old.history old.events (with_turn (turned_now old kind back) old.log) old.tally old.hierarchy sound on
+    sound-over old old.history old.events (with_logged (turned_now old kind back) old.log) old.tally old.hierarchy sound on
     (record {
       parts = still-parts old.hierarchy;
       calls = refl;
@@ -85,14 +85,14 @@ spent-unpromoted DrainKind = refl
 
 -- a turn's action came to this
 acted-sound : {T E : Type 0} (progress : Progress) (action : Action) (kind : Kind) (old : CoreView T E) (h : HierarchyView T E)
-    → IsCoreSound old → (flash_of old.hierarchy).on ≡ true → old.events < last_event → Performs action old.hierarchy progress h
+    → IsCoreSound old → (flash_under old.hierarchy).on ≡ true → old.events < last_event → Performs action old.hierarchy progress h
     → Runs progress old.hierarchy h → CountsTurn kind action progress old.tally
     → CountsAlike h.policy (tally_after action progress old.tally) → IsTold old.opening old.history.entries h.memory (lines_under h)
     → IsCoreSound (core_after action progress kind old h)
 acted-sound (Did what) action kind old h sound on going is runs turns alike told =
     let counts = after-moves (Did what) action old.tally in
     let moves = counts.moves in
-    sound-over old old.history (next_number old.events) (with_turn (turned_now old kind (back_of action (Did what))) old.log)
+    sound-over old old.history (next_number old.events) (with_logged (turned_now old kind (back_of action (Did what))) old.log)
     (tally_after action (Did what) old.tally) h sound on
     (record {
       parts = performs-parts action old.hierarchy (Did what) h is;
@@ -105,7 +105,7 @@ acted-sound (Did what) action kind old h sound on going is runs turns alike told
     })
 acted-sound Failed action kind old h sound on going is runs turns alike told =
     let failed = back-failed action in
-    sound-over old old.history (next_number old.events) (with_turn (turned_now old kind (back_of action Failed)) old.log) old.tally h
+    sound-over old old.history (next_number old.events) (with_logged (turned_now old kind (back_of action Failed)) old.log) old.tally h
     sound on
     (record {
       parts = performs-parts action old.hierarchy Failed h is;
@@ -130,7 +130,7 @@ acted-sound Off action kind old h sound on going is runs turns alike told =
 -- a turn by what it chose
 chosen-sound : {T E : Type 0} (action : Option Action) (score : E → Bool → ℕ → ℕ) (kind : Kind) (old : CoreView T E) (back : Back)
     (new : CoreView T E) → IsCoreSound old → IsMemorySound old.hierarchy.memory → IsDevice (lines_under old.hierarchy)
-    → (flash_of old.hierarchy).on ≡ true → old.events < last_event → IsChoice score kind old.hierarchy action
+    → (flash_under old.hierarchy).on ≡ true → old.events < last_event → IsChoice score kind old.hierarchy action
     → IsBackBy action kind old back new → IsCoreSound new
 chosen-sound {T} {E} None score kind old back new sound memory device on going choice is =
     subst (λ (c : CoreView T E). IsCoreSound c) (sym is.1) (rested-sound old kind Idle sound on (idle-unpromoted kind) refl)
@@ -145,7 +145,7 @@ chosen-sound {T} {E} (Some action) score kind old back new sound memory device o
 
 back-at-sound : {T E : Type 0} (spent : Bool) (score : E → Bool → ℕ → ℕ) (kind : Kind) (old : CoreView T E) (back : Back)
     (new : CoreView T E) → IsCoreSound old → IsMemorySound old.hierarchy.memory → IsDevice (lines_under old.hierarchy)
-    → (flash_of old.hierarchy).on ≡ true → (old.events == last_event) ≡ spent → IsBackAt spent score kind old back new
+    → (flash_under old.hierarchy).on ≡ true → (old.events == last_event) ≡ spent → IsBackAt spent score kind old back new
     → IsCoreSound new
 back-at-sound {T} {E} true score kind old back new sound memory device on last is =
     subst (λ (c : CoreView T E). IsCoreSound c) (sym is.1) (rested-sound old kind Spent sound on (spent-unpromoted kind) refl)
@@ -156,7 +156,7 @@ back-at-sound false score kind old back new sound memory device on last is =
 
 back-sound-by : {T E : Type 0} (on : Bool) (score : E → Bool → ℕ → ℕ) (kind : Kind) (old : CoreView T E) (back : Back)
     (new : CoreView T E) → IsCoreSound old → IsMemorySound old.hierarchy.memory → IsDevice (lines_under old.hierarchy)
-    → (flash_of old.hierarchy).on ≡ on → IsBack on score kind old back new → IsCoreSound new
+    → (flash_under old.hierarchy).on ≡ on → IsBack on score kind old back new → IsCoreSound new
 back-sound-by {T} {E} false score kind old back new sound memory device on is =
     subst (λ (c : CoreView T E). IsCoreSound c) (sym is.1) sound
 back-sound-by true score kind old back new sound memory device on is =
@@ -165,8 +165,8 @@ back-sound-by true score kind old back new sound memory device on is =
 -- a background turn
 pub back-sound : {T E : Type 0} (score : E → Bool → ℕ → ℕ) (kind : Kind) (old : CoreView T E) (back : Back) (new : CoreView T E)
     → IsCoreSound old → IsMemorySound old.hierarchy.memory → IsDevice (lines_under old.hierarchy)
-    → IsBack (flash_of old.hierarchy).on score kind old back new → IsCoreSound new
+    → IsBack (flash_under old.hierarchy).on score kind old back new → IsCoreSound new
 back-sound score kind old back new sound memory device is =
-    back-sound-by (flash_of old.hierarchy).on score kind old back new sound memory device refl is
+    back-sound-by (flash_under old.hierarchy).on score kind old back new sound memory device refl is
 
 pub ruleset back_keeps = back-sound

@@ -5,7 +5,7 @@ use Rattle.std.proofs.lemmas.List.Sums.{sum_by-append}
 use Rattle.ff_model.specs.History.{Entries}
 use Rattle.ff_core.specs.Core.{CoreView}
 use Rattle.ff_core.specs.CoreSound.{IsCounted, has_failed, has_fault, is_promotion, is_served_access}
-use Rattle.ff_core.specs.Hierarchy.{HierarchyView, flash_of}
+use Rattle.ff_core.specs.Hierarchy.{HierarchyView, flash_under}
 use Rattle.ff_core.specs.Log.{LogView}
 use Rattle.ff_core.specs.declared.tally.Tally.{Tally}
 use Rattle.ff_core.proofs.Running.{FailsBy}
@@ -57,7 +57,7 @@ counted-over core history events log tally h counted from_on more =
       moves = omega arith;
       faults = omega arith;
       planned = λ some.
-          let plan : IsSome (flash_of core.hierarchy).plan = rw (sym more.fails.plan) some in
+          let plan : IsSome (flash_under core.hierarchy).plan = rw (sym more.fails.plan) some in
           let same = counted.planned plan in
           let rose = more.fails.planned plan in
           omega arith;

@@ -24,7 +24,7 @@ use Rattle.ff_core.specs.Core.{CoreView, next_number}
 use Rattle.ff_core.specs.CoreSound.{IsCoreSound}
 use Rattle.ff_core.specs.Drives.{AnswersOrLeaves, IsEvent, cut, served}
 use Rattle.ff_core.specs.EventsLeft.{events_left}
-use Rattle.ff_core.specs.Hierarchy.{HierarchyView, flash_of, lines_under}
+use Rattle.ff_core.specs.Hierarchy.{HierarchyView, flash_under, lines_under}
 use Rattle.ff_core.specs.Serving.{IsAccess, PolicyAfter, page_asked}
 use Rattle.ff_core.specs.Turns.{AfterStep, IsAttempt, IsMiss, IsServed, IsTurn, IsTurnBy, answered, misses, refusal, serves}
 use Rattle.ff_core.specs.declared.action.Action.{Action}
@@ -41,7 +41,7 @@ next_few event = min-le_left (event + 1) last_event
 
 -- the power was off
 off_event : {T E : Type 0} (old : CoreView T E) (caller : Caller) (number : ℕ) (op : Op) (turn : Turn) (new : CoreView T E)
-    → (flash_of old.hierarchy).on ≡ false → turn ≡ Off → new ≡ old → IsEvent old caller number op turn new
+    → (flash_under old.hierarchy).on ≡ false → turn ≡ Off → new ≡ old → IsEvent old caller number op turn new
 off_event old caller number op turn new off is same = rw (is, same) (record {
   answer = cut refl refl off;
   log = refl;
@@ -65,7 +65,7 @@ refused_event : {T E : Type 0} (old : CoreView T E) (caller : Caller) (number : 
     (new : CoreView T E) → turn ≡ Served reply → new ≡ answered old caller number op reply
     → IsEvent old caller number op turn new
 refused_event old caller number op reply turn new is same = rw (is, same) (record {
-  answer = served reply old.events (flash_of old.hierarchy).faults refl refl;
+  answer = served reply old.events (flash_under old.hierarchy).faults refl refl;
   log = refl;
   same = record {
     opening = refl;
@@ -213,7 +213,7 @@ missing_by {T = T} {E = E} Failed old caller number op page action between turn 
       events = omega (arith, event, few);
     } in
     let answer : AnswersOrLeaves (Served Fault) old caller number op new =
-    served Fault old.events (flash_of new.hierarchy).faults refl (ap (λ (c : CoreView T E). c.history) core) in
+    served Fault old.events (flash_under new.hierarchy).faults refl (ap (λ (c : CoreView T E). c.history) core) in
     rw after.0 (missing_event old caller number op page between Failed (Served Fault) new m leaves answer)
 missing_by {T = T} {E = E} ProgressOff old caller number op page action between turn new m after =
     let core = after.1 in
@@ -238,7 +238,7 @@ record IsEventGiven {T E : Type 0} (old new : CoreView T E) : Type 0 where
   after : IsDevice (lines_under new.hierarchy)
 
 missed_event : {T E : Type 0} (old : CoreView T E) (caller : Caller) (number : ℕ) (op : Op) (turn : Turn) (new : CoreView T E)
-    → IsEventGiven old new → (flash_of old.hierarchy).on ≡ true → IsAsked old.opening.pages old.events op
+    → IsEventGiven old new → (flash_under old.hierarchy).on ≡ true → IsAsked old.opening.pages old.events op
     → IsMiss old caller number op turn new → IsEvent old caller number op turn new
 missed_event {T = T} {E = E} old caller number op turn new given on asked m =
     let between : HierarchyView T E = m.between in
@@ -254,7 +254,7 @@ missed_event {T = T} {E = E} old caller number op turn new given on asked m =
       located = m.access.located;
       after = given.after;
     } in
-    let power : (flash_of between).on ≡ true = ap (λ (t : PageStoreView). t.world.flash.on) m.access.store ∙ on in
+    let power : (flash_under between).on ≡ true = ap (λ (t : PageStoreView). t.world.flash.on) m.access.store ∙ on in
     let step = m.step in
     let missing : IsMissing old op m.page between step.progress new = record {
       access = m.access;
@@ -265,7 +265,7 @@ missed_event {T = T} {E = E} old caller number op turn new given on asked m =
     missing_by step.progress old caller number op m.page step.action between turn new missing step.after
 
 attempt_event : {T E : Type 0} (answers : T → ℕ → ℕ → ℕ → ℕ → Type 0) (old : CoreView T E) (caller : Caller) (number : ℕ) (op : Op)
-    (turn : Turn) (new : CoreView T E) → IsEventGiven old new → (flash_of old.hierarchy).on ≡ true
+    (turn : Turn) (new : CoreView T E) → IsEventGiven old new → (flash_under old.hierarchy).on ≡ true
     → IsAsked old.opening.pages old.events op → IsAttempt answers old caller number op turn new
     → IsEvent old caller number op turn new
 attempt_event answers old caller number op turn new given on asked (serves reply is s) =
@@ -275,7 +275,7 @@ attempt_event answers old caller number op turn new given on asked (misses m) =
 
 powered_event : {T E : Type 0} (refused : Option Reply) (answers : T → ℕ → ℕ → ℕ → ℕ → Type 0) (old : CoreView T E)
     (caller : Caller) (number : ℕ) (op : Op) (turn : Turn) (new : CoreView T E) → refusal old.opening.pages old.events op ≡ refused
-    → IsEventGiven old new → (flash_of old.hierarchy).on ≡ true → IsTurnBy refused answers old caller number op turn new
+    → IsEventGiven old new → (flash_under old.hierarchy).on ≡ true → IsTurnBy refused answers old caller number op turn new
     → IsEvent old caller number op turn new
 powered_event (Some reply) answers old caller number op turn new refused given on is =
     refused_event old caller number op reply turn new is.0 is.1
@@ -284,7 +284,7 @@ powered_event None answers old caller number op turn new refused given on is =
     attempt_event answers old caller number op turn new given on (record { range = asked.0; going = asked.1 }) is
 
 by_power : {T E : Type 0} (on : Bool) (answers : T → ℕ → ℕ → ℕ → ℕ → Type 0) (old : CoreView T E) (caller : Caller) (number : ℕ)
-    (op : Op) (turn : Turn) (new : CoreView T E) → (flash_of old.hierarchy).on ≡ on → IsEventGiven old new
+    (op : Op) (turn : Turn) (new : CoreView T E) → (flash_under old.hierarchy).on ≡ on → IsEventGiven old new
     → IsTurn on answers old caller number op turn new → IsEvent old caller number op turn new
 by_power false answers old caller number op turn new off given is = off_event old caller number op turn new off is.0 is.1
 by_power true answers old caller number op turn new on given is =
@@ -293,8 +293,8 @@ by_power true answers old caller number op turn new on given is =
 -- one event of a call
 pub turn_event : {T E : Type 0} (answers : T → ℕ → ℕ → ℕ → ℕ → Type 0) (old : CoreView T E) (caller : Caller) (number : ℕ) (op : Op)
     (turn : Turn) (new : CoreView T E) → IsCoreSound old → IsMemorySound old.hierarchy.memory → IsDevice (lines_under old.hierarchy)
-    → IsDevice (lines_under new.hierarchy) → IsTurn (flash_of old.hierarchy).on answers old caller number op turn new
+    → IsDevice (lines_under new.hierarchy) → IsTurn (flash_under old.hierarchy).on answers old caller number op turn new
     → IsEvent old caller number op turn new
 turn_event answers old caller number op turn new sound memory device after is =
-    by_power (flash_of old.hierarchy).on answers old caller number op turn new refl
+    by_power (flash_under old.hierarchy).on answers old caller number op turn new refl
     (record { sound = sound; memory = memory; device = device; after = after }) is

@@ -11,7 +11,7 @@ use Rattle.ff_core.specs.Core.{CoreView, spare_calls}
 use Rattle.ff_core.specs.CoreSound.{IsCoreSound}
 use Rattle.ff_core.specs.Drives.{IsAnswered, IsDriven, IsEvent, SameSession, cut, most_events, served}
 use Rattle.ff_core.specs.EventsLeft.{events_left}
-use Rattle.ff_core.specs.Hierarchy.{flash_of, lines_under}
+use Rattle.ff_core.specs.Hierarchy.{flash_under, lines_under}
 use Rattle.ff_core.specs.declared.turn.Driven.{Driven}
 use Rattle.ff_core.specs.declared.turn.Driven.TheVariants.{Served as DrivenServed, Off as DrivenOff}
 use Rattle.ff_core.specs.declared.turn.Turn.{Turn}
@@ -25,8 +25,8 @@ pub record IsDrivenFor {T E : Type 0} (count : ℕ) (op : Op) (old new : CoreVie
   pub log : new.log ≡ old.log
   pub same : SameSession old new
   pub events : new.events ≤ old.events + count
-  pub no_fall : (flash_of old.hierarchy).operations ≤ (flash_of new.hierarchy).operations
-  pub operations : (flash_of new.hierarchy).operations ≤ (flash_of old.hierarchy).operations + count
+  pub no_fall : (flash_under old.hierarchy).operations ≤ (flash_under new.hierarchy).operations
+  pub operations : (flash_under new.hierarchy).operations ≤ (flash_under old.hierarchy).operations + count
   pub left : count + events_left op new.hierarchy ≤ events_left op old.hierarchy
 
 pub driven_none : {T E : Type 0} (op : Op) (core : CoreView T E) → IsDrivenFor 0 op core core

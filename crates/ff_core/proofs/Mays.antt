@@ -24,7 +24,7 @@ use Rattle.ff_table.specs.declared.table.Home.TheVariants.{Ssd, Host}
 use Rattle.ff_core.specs.CanPerform.{CanPerform}
 use Rattle.ff_core.specs.Choices.{CollectChoice, DrainChoice, EvictChoice, IsChoice, IsEvicted, IsNextSlot, PromoteChoice, finishes, lands, lifts}
 use Rattle.ff_core.specs.Hierarchy.{HierarchyView, lines_under}
-use Rattle.ff_core.specs.Misses.{IsActionAtRest, IsAway, IsMarkAction, IsMissAction, IsMissed, action_in_flight, in_flight, at_rest, waits_for_slot, works, retreats}
+use Rattle.ff_core.specs.Misses.{IsActionAtRest, IsAway, IsMarkAction, IsMissAction, MissesPage, action_in_flight, in_flight, at_rest, waits_for_slot, works, retreats}
 use Rattle.ff_core.specs.declared.action.Action.{Action}
 use Rattle.ff_core.specs.declared.action.Action.TheVariants.{Advance, TurnBack, Work, Promote, Retreat, Evict, Collect, Drain}
 
@@ -191,7 +191,7 @@ mark-may h page action (at_rest none rests) away located some = rest-may h page 
 
 -- what is done for a call that missed a page may be performed
 pub help-may : {T E : Type 0} (op : Op) (page : PageNo) (h : HierarchyView T E) (action : Action)
-    → IsMissAction op page h action → IsMissed op page h → IsLocated h.memory (lines_under h)
+    → IsMissAction op page h action → MissesPage op page h → IsLocated h.memory (lines_under h)
     → 0 < length h.memory.slots → CanPerform action h
 help-may (Load at len) page h action is missed located some = rw is missed
 help-may (Store at bytes) page h action is missed located some = rw is missed

@@ -9,7 +9,7 @@ use Rattle.ff_plb.specs.declared.slot.Way.{Way}
 use Rattle.ff_plb.specs.declared.slot.Way.TheVariants.{Coming, Leaving}
 use Rattle.ff_store.specs.Calls.{SameStore}
 use Rattle.ff_store.specs.PageStore.{PageStoreView}
-use Rattle.ff_core.specs.Hierarchy.{HierarchyView, flash_of}
+use Rattle.ff_core.specs.Hierarchy.{HierarchyView, flash_under}
 use Rattle.ff_core.specs.Misses.{IsActionAtRest, IsMarkAction, IsMissAction, action_in_flight, at_rest, in_flight, retreats, waits_for_slot, works}
 use Rattle.ff_core.specs.Performs.{HasRetreated, IsAdvanced, IsDeviceStep, IsTurnedBack, IsWorkedFor, Performs, progress_of, steps, yields}
 use Rattle.ff_core.specs.declared.action.Action.{Action}
@@ -21,9 +21,9 @@ pub record RunsStep {T E : Type 0} (h : HierarchyView T E) (progress : Progress)
   pub policy : h'.policy ≡ h.policy
   pub evictor : h'.evictor ≡ h.evictor
   pub store : SameStore h.device.store h'.device.store
-  pub no_fall : (flash_of h).operations ≤ (flash_of h').operations
-  pub one_more : (flash_of h').operations ≤ (flash_of h).operations + 1
-  pub off : progress ≡ Off → (flash_of h').on ≡ false
+  pub no_fall : (flash_under h).operations ≤ (flash_under h').operations
+  pub one_more : (flash_under h').operations ≤ (flash_under h).operations + 1
+  pub off : progress ≡ Off → (flash_under h').on ≡ false
 
 pub store_same : (s : PageStoreView) → SameStore s s
 store_same s = record {
@@ -39,7 +39,7 @@ store_same s = record {
 -- no operation was made
 still_runs : {T E : Type 0} (h : HierarchyView T E) (progress : Progress) (h' : HierarchyView T E)
     → h'.device.store ≡ h.device.store → h'.policy ≡ h.policy → h'.evictor ≡ h.evictor
-    → (progress ≡ Off → (flash_of h').on ≡ false) → RunsStep h progress h'
+    → (progress ≡ Off → (flash_under h').on ≡ false) → RunsStep h progress h'
 still_runs h progress h' store policy evictor off = record {
   policy = policy;
   evictor = evictor;
@@ -69,7 +69,7 @@ retreated_runs {T = T} {E = E} page h progress h' is =
 
 -- a step of work that came to the power's being off
 worked_off : {T E : Type 0} (work : Work) (page : ℕ) (h h' : HierarchyView T E) → progress_of work ≡ Off
-    → IsDeviceStep page work h h' → (flash_of h').on ≡ false
+    → IsDeviceStep page work h h' → (flash_under h').on ≡ false
 worked_off Ready page h h' off step = absurd (cc)
 worked_off Stepped page h h' off step = absurd (cc)
 worked_off (Pinned other) page h h' off step = absurd (cc)
@@ -77,7 +77,7 @@ worked_off WorkFailed page h h' off step = absurd (cc)
 worked_off WorkOff page h h' off step = step.works.on
 
 worked_runs : {T E : Type 0} (page : ℕ) (h : HierarchyView T E) (progress : Progress) (h' : HierarchyView T E)
-    → (flash_of h).on ≡ true → IsWorkedFor page h progress h' → RunsStep h progress h'
+    → (flash_under h).on ≡ true → IsWorkedFor page h progress h' → RunsStep h progress h'
 worked_runs {T = T} {E = E} page h progress h' on (steps work came step free) = record {
   policy = ap (λ (g : HierarchyView T E). g.policy) step.rest;
   evictor = ap (λ (g : HierarchyView T E). g.evictor) step.rest;
@@ -94,7 +94,7 @@ flight_runs Coming slot h progress h' is = turned_runs slot h progress h' is
 flight_runs Leaving slot h progress h' is = advanced_runs slot h progress h' is
 
 rest_runs : {T E : Type 0} (page : PageNo) (action : Action) (h : HierarchyView T E) (progress : Progress) (h' : HierarchyView T E)
-    → (flash_of h).on ≡ true → IsActionAtRest h page action → Performs action h progress h' → RunsStep h progress h'
+    → (flash_under h).on ≡ true → IsActionAtRest h page action → Performs action h progress h' → RunsStep h progress h'
 rest_runs page action h progress h' on (waits_for_slot busy is) performs =
     let did : IsAdvanced 0 h progress h' = rw is at performs in advanced_runs 0 h progress h' did
 rest_runs page action h progress h' on (works some absent is) performs =
@@ -103,7 +103,7 @@ rest_runs page action h progress h' on (retreats some resident is) performs =
     let did : HasRetreated page.0 h progress h' = rw is at performs in retreated_runs page.0 h progress h' did
 
 mark_runs : {T E : Type 0} (page : PageNo) (action : Action) (h : HierarchyView T E) (progress : Progress) (h' : HierarchyView T E)
-    → (flash_of h).on ≡ true → IsMarkAction h page action → Performs action h progress h' → RunsStep h progress h'
+    → (flash_under h).on ≡ true → IsMarkAction h page action → Performs action h progress h' → RunsStep h progress h'
 mark_runs page action h progress h' on (in_flight slot entry found at is) performs =
     let did : Performs (action_in_flight entry.way slot) h progress h' = rw is at performs in
     flight_runs entry.way slot h progress h' did
@@ -111,7 +111,7 @@ mark_runs page action h progress h' on (at_rest none rest) performs = rest_runs 
 
 -- a step for a call that missed
 pub miss_runs : {T E : Type 0} (op : Op) (page : PageNo) (action : Action) (h : HierarchyView T E) (progress : Progress)
-    (h' : HierarchyView T E) → (flash_of h).on ≡ true → IsMissAction op page h action → Performs action h progress h'
+    (h' : HierarchyView T E) → (flash_under h).on ≡ true → IsMissAction op page h action → Performs action h progress h'
     → RunsStep h progress h'
 miss_runs (Load at len) page action h progress h' on is performs =
     let did : IsWorkedFor page.0 h progress h' = rw is at performs in worked_runs page.0 h progress h' on did

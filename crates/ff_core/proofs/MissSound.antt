@@ -20,7 +20,7 @@ use Rattle.ff_plb.specs.declared.slot.Way.TheVariants.{Coming, Leaving}
 use Rattle.ff_store.specs.PageStore.{PageStoreView}
 use Rattle.ff_core.specs.Core.{CoreView, entry_now, next_number, with_entry}
 use Rattle.ff_core.specs.CoreSound.{IsCoreSound}
-use Rattle.ff_core.specs.Hierarchy.{HierarchyView, flash_of, lines_under}
+use Rattle.ff_core.specs.Hierarchy.{HierarchyView, flash_under, lines_under}
 use Rattle.ff_core.specs.Misses.{IsActionAtRest, IsMarkAction, IsMissAction, action_in_flight, at_rest, in_flight, retreats, waits_for_slot, works}
 use Rattle.ff_core.specs.Performs.{Performs}
 use Rattle.ff_core.specs.Tally.{started_by, tally_after}
@@ -71,7 +71,7 @@ record IsMissing {T E : Type 0} (core : CoreView T E) (op : Op) : Type 0 where
   sound : IsCoreSound core
   memory : IsMemorySound core.hierarchy.memory
   device : IsDevice (lines_under core.hierarchy)
-  on : (flash_of core.hierarchy).on ≡ true
+  on : (flash_under core.hierarchy).on ≡ true
   going : core.events < last_event
   may : may_fault op ≡ true
   due : is_served (due_reply core.opening core.history.entries core.events op) ≡ true
@@ -97,7 +97,7 @@ step-sound {T} {E} (Did what) action page core caller number op turn h new missi
           (after-promoted (Did what) action core.tally (miss-other op page core.hierarchy action asked core.tally)) alike runs;
     }))
 step-sound {T} {E} Failed action page core caller number op turn h new missing asked is runs alike told after =
-    let faults : ℕ = (flash_of h).faults in
+    let faults : ℕ = (flash_under h).faults in
     let entry : Entry = entry_now core caller number op Fault faults in
     let before = missing.sound.told.faults in
     let failed = runs.stops in
@@ -141,7 +141,7 @@ made-sound page core caller number op turn new missing step =
 -- a call missed a page
 pub miss-sound : {T E : Type 0} (old : CoreView T E) (caller : Caller) (number : ℕ) (op : Op) (turn : Turn) (new : CoreView T E)
     → IsCoreSound old → IsMemorySound old.hierarchy.memory → IsDevice (lines_under old.hierarchy)
-    → (flash_of old.hierarchy).on ≡ true → is_in_range old.opening.pages op ≡ true → old.events < last_event
+    → (flash_under old.hierarchy).on ≡ true → is_in_range old.opening.pages op ≡ true → old.events < last_event
     → IsMiss old caller number op turn new → IsCoreSound new
 miss-sound {T} {E} old caller number op turn new sound memory device on range going is =
     let looked : HierarchyView T E = is.between in

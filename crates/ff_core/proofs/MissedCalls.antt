@@ -12,7 +12,7 @@ use Rattle.ff_core.specs.CanPerform.{CanPerform}
 use Rattle.ff_core.specs.Core.{CoreView}
 use Rattle.ff_core.specs.CoreSound.{IsCoreSound, IsCounted, IsSized, IsTimed}
 use Rattle.ff_core.specs.Hierarchy.{HierarchyView, lines_under}
-use Rattle.ff_core.specs.Misses.{IsMissAction, IsMissed}
+use Rattle.ff_core.specs.Misses.{IsMissAction, MissesPage}
 use Rattle.ff_core.specs.Serving.{IsAccess, page_asked}
 use Rattle.ff_core.specs.Turns.{refusal}
 use Rattle.ff_core.specs.declared.action.Action.{Action}
@@ -87,7 +87,7 @@ left-sound core h left is = record {
 
 -- the page that a call missed isn't there
 finds-missed : {T E : Type 0} (pages : ℕ) (op : Op) (page : PageNo) (h : HierarchyView T E) → page_asked op < pages
-    → length h.memory.table.homes ≡ pages → Finds op h.memory (lines_under h) page → IsMissed op page h
+    → length h.memory.table.homes ≡ pages → Finds op h.memory (lines_under h) page → MissesPage op page h
 finds-missed pages (Load at len) page h low size finds =
     let same = finds.page_is in
     record { in_range = omega arith; absent = finds.absent }
@@ -110,7 +110,7 @@ left-finds op page h h' left finds =
 -- a call missed a page: the core is as sound as before, and the page isn't there
 pub record IsMissedCall {T E : Type 0} (core : CoreView T E) (op : Op) (page : PageNo) (h : HierarchyView T E) : Type 0 where
   pub sound : IsCoreSound (record core { hierarchy = h })
-  pub missed : IsMissed op page h
+  pub missed : MissesPage op page h
 
 pub missed-call : {T E : Type 0} (core : CoreView T E) (op : Op) (position : ℕ) (page : PageNo) (h : HierarchyView T E)
     → IsCoreSound core → refusal core.opening.pages core.events op ≡ None → IsAccess op position core.hierarchy (Miss page) h
@@ -134,7 +134,7 @@ missed-call core op position page h sound none is =
 
 -- what is done for it may be performed
 pub missed-may : {T E : Type 0} (core : CoreView T E) (op : Op) (page : PageNo) (action : Action) → IsCoreSound core
-    → IsMissed op page core.hierarchy → IsMissAction op page core.hierarchy action → CanPerform action core.hierarchy
+    → MissesPage op page core.hierarchy → IsMissAction op page core.hierarchy action → CanPerform action core.hierarchy
 missed-may core op page action sound missed is =
     let least = sound.sized.limits.plb.low in
     let slots : length core.hierarchy.memory.slots ≡ core.geometry.plb = sound.sized.slots in

@@ -22,7 +22,7 @@ use Rattle.ff_device.specs.StoreSteps.{CallsOnce}
 use Rattle.ff_core.specs.Backs.{IsBack, IsBackAt, IsBackBy, IsPerformed, core_after, rested}
 use Rattle.ff_core.specs.Core.{CoreView}
 use Rattle.ff_core.specs.Drives.{SameSession}
-use Rattle.ff_core.specs.Hierarchy.{HierarchyView, flash_of}
+use Rattle.ff_core.specs.Hierarchy.{HierarchyView, flash_under}
 use Rattle.ff_core.specs.Performs.{IsAdvanced, IsWorkedFor, Performs, steps, yields}
 use Rattle.ff_core.specs.Turns.{IsAttempt, IsTurn, IsTurnBy, misses, refusal, serves}
 use Rattle.ff_core.specs.Uncut.{IsUncut, StaysOn}
@@ -71,7 +71,7 @@ record Leaves {T E : Type 0} (h h' : HierarchyView T E) : Type 0 where
   floor : h'.policy.tuner ≡ h.policy.tuner
   picker : h'.evictor.picker ≡ h.evictor.picker
   store : SameStore h.device.store h'.device.store
-  on : StaysOn (flash_of h) (flash_of h')
+  on : StaysOn (flash_under h) (flash_under h')
 
 -- the store was let alone
 left_still : {T E : Type 0} (h h' : HierarchyView T E) → h'.device.store ≡ h.device.store
@@ -84,7 +84,7 @@ left_still h h' store floor picker = record {
 }
 
 -- the store was called
-left_called : {T E : Type 0} (h : HierarchyView T E) (stop : Option FlashStop) (h' : HierarchyView T E) → (flash_of h).on ≡ true
+left_called : {T E : Type 0} (h : HierarchyView T E) (stop : Option FlashStop) (h' : HierarchyView T E) → (flash_under h).on ≡ true
     → CallsOnce h.device.store stop h'.device.store → h' ≡ record h { device = h'.device } → Leaves h h'
 left_called {T = T} {E = E} h stop h' on calls rest =
     let call = calls.with_power on in
@@ -102,12 +102,12 @@ left_advanced {T = T} {E = E} slot h progress h' is =
     (ap (λ (g : HierarchyView T E). g.evictor.picker) is.rest)
 
 left_worked : {T E : Type 0} (page : ℕ) (h : HierarchyView T E) (progress : Progress) (h' : HierarchyView T E)
-    → (flash_of h).on ≡ true → IsWorkedFor page h progress h' → Leaves h h'
+    → (flash_under h).on ≡ true → IsWorkedFor page h progress h' → Leaves h h'
 left_worked page h progress h' on (steps work came step free) = left_called h _ h' on step.calls step.rest
 left_worked page h progress h' on (yields other slot pinned found is) = left_advanced slot h progress h' is
 
 performs_leaves : {T E : Type 0} (action : Action) (h : HierarchyView T E) (progress : Progress) (h' : HierarchyView T E)
-    → (flash_of h).on ≡ true → Performs action h progress h' → Leaves h h'
+    → (flash_under h).on ≡ true → Performs action h progress h' → Leaves h h'
 performs_leaves (Advance slot) h progress h' on is = left_advanced slot h progress h' is
 performs_leaves {T = T} {E = E} (TurnBack slot) h progress h' on is =
     left_still h h' is.moved.store (ap (λ (g : HierarchyView T E). g.policy.tuner) is.rest)
@@ -130,7 +130,7 @@ performs_leaves {T = T} {E = E} Drain h progress h' on is =
 -- what a background turn leaves: the session is the same, and the power stays on
 record LeavesSession {T E : Type 0} (old new : CoreView T E) : Type 0 where
   same : SameSession old new
-  on : StaysOn (flash_of old.hierarchy) (flash_of new.hierarchy)
+  on : StaysOn (flash_under old.hierarchy) (flash_under new.hierarchy)
 
 -- no part but the log and the counts changed
 left_by : {T E : Type 0} (old new : CoreView T E) → new ≡ record old {
@@ -165,7 +165,7 @@ acted_leaves Failed action kind old h leaves = left_by old (core_after action Fa
 acted_leaves Off action kind old h leaves = left_by old (core_after action Off kind old h) refl leaves
 
 chosen_leaves : {T E : Type 0} (action : Option Action) (kind : Kind) (old : CoreView T E) (back : Back) (new : CoreView T E)
-    → (flash_of old.hierarchy).on ≡ true → IsBackBy action kind old back new → LeavesSession old new
+    → (flash_under old.hierarchy).on ≡ true → IsBackBy action kind old back new → LeavesSession old new
 chosen_leaves {T = T} {E = E} None kind old back new on is =
     subst (λ (c : CoreView T E). LeavesSession old c) (sym is.1) (rested_leaves old kind Idle)
 chosen_leaves {T = T} {E = E} (Some action) kind old back new on is =
@@ -174,7 +174,7 @@ chosen_leaves {T = T} {E = E} (Some action) kind old back new on is =
     (performs_leaves action old.hierarchy is.progress new.hierarchy on is.performs))
 
 back_at_leaves : {T E : Type 0} (spent : Bool) (score : E → Bool → ℕ → ℕ) (kind : Kind) (old : CoreView T E) (back : Back)
-    (new : CoreView T E) → (flash_of old.hierarchy).on ≡ true → IsBackAt spent score kind old back new → LeavesSession old new
+    (new : CoreView T E) → (flash_under old.hierarchy).on ≡ true → IsBackAt spent score kind old back new → LeavesSession old new
 back_at_leaves {T = T} {E = E} true score kind old back new on is =
     subst (λ (c : CoreView T E). LeavesSession old c) (sym is.1) (rested_leaves old kind Spent)
 back_at_leaves false score kind old back new on is = chosen_leaves is.action kind old back new on is.turn
@@ -186,58 +186,58 @@ unchanged_leaves {T = T} {E = E} old new same =
     (left_by old old refl (left_still old.hierarchy old.hierarchy refl refl refl))
 
 back_leaves_by : {T E : Type 0} (on : Bool) (score : E → Bool → ℕ → ℕ) (kind : Kind) (old : CoreView T E) (back : Back)
-    (new : CoreView T E) → (flash_of old.hierarchy).on ≡ on → IsBack on score kind old back new → LeavesSession old new
+    (new : CoreView T E) → (flash_under old.hierarchy).on ≡ on → IsBack on score kind old back new → LeavesSession old new
 back_leaves_by false score kind old back new on is = unchanged_leaves old new is.1
 back_leaves_by true score kind old back new on is = back_at_leaves (old.events == last_event) score kind old back new on is
 
 -- a background turn leaves the session
 pub back_same : {T E : Type 0} (score : E → Bool → ℕ → ℕ) (kind : Kind) (old : CoreView T E) (back : Back) (new : CoreView T E)
-    → IsBack (flash_of old.hierarchy).on score kind old back new → SameSession old new
+    → IsBack (flash_under old.hierarchy).on score kind old back new → SameSession old new
 back_same score kind old back new is =
-    (back_leaves_by (flash_of old.hierarchy).on score kind old back new refl is).same
+    (back_leaves_by (flash_under old.hierarchy).on score kind old back new refl is).same
 
 pub back_on : {T E : Type 0} (score : E → Bool → ℕ → ℕ) (kind : Kind) (old : CoreView T E) (back : Back) (new : CoreView T E)
-    → IsBack (flash_of old.hierarchy).on score kind old back new
-    → StaysOn (flash_of old.hierarchy) (flash_of new.hierarchy)
+    → IsBack (flash_under old.hierarchy).on score kind old back new
+    → StaysOn (flash_under old.hierarchy) (flash_under new.hierarchy)
 back_on score kind old back new is =
-    (back_leaves_by (flash_of old.hierarchy).on score kind old back new refl is).on
+    (back_leaves_by (flash_under old.hierarchy).on score kind old back new refl is).on
 
 -- an event of a call that isn't refused at once
 attempt_on : {T E : Type 0} (answers : T → ℕ → ℕ → ℕ → ℕ → Type 0) (old : CoreView T E) (caller : Caller) (number : ℕ) (op : Op)
     (turn : Turn) (new : CoreView T E) → IsAttempt answers old caller number op turn new
-    → StaysOn (flash_of old.hierarchy) (flash_of new.hierarchy)
+    → StaysOn (flash_under old.hierarchy) (flash_under new.hierarchy)
 attempt_on {T = T} {E = E} answers old caller number op turn new (serves reply answer is) uncut on =
-    let core = ap (λ (c : CoreView T E). (flash_of c.hierarchy).on) is.core in
+    let core = ap (λ (c : CoreView T E). (flash_under c.hierarchy).on) is.core in
     let still = ap (λ (s : PageStoreView). s.world.flash.on) is.access.store in
     core ∙ (still ∙ on)
 attempt_on answers old caller number op turn new (misses is) uncut on =
     let still = ap (λ (s : PageStoreView). s.world.flash) is.access.store in
-    let before : (flash_of is.between).on ≡ true = ap (λ (f : FlashState). f.on) still ∙ on in
-    let none : IsUncut (flash_of is.between) = rw still uncut in
+    let before : (flash_under is.between).on ≡ true = ap (λ (f : FlashState). f.on) still ∙ on in
+    let none : IsUncut (flash_under is.between) = rw still uncut in
     let leaves = performs_leaves is.step.action is.between is.step.progress new.hierarchy before is.step.performs in
     leaves.on none before
 
 asked_on : {T E : Type 0} (refused : Option Reply) (answers : T → ℕ → ℕ → ℕ → ℕ → Type 0) (old : CoreView T E) (caller : Caller)
     (number : ℕ) (op : Op) (turn : Turn) (new : CoreView T E) → IsTurnBy refused answers old caller number op turn new
-    → StaysOn (flash_of old.hierarchy) (flash_of new.hierarchy)
+    → StaysOn (flash_under old.hierarchy) (flash_under new.hierarchy)
 asked_on {T = T} {E = E} (Some reply) answers old caller number op turn new is uncut on =
-    ap (λ (c : CoreView T E). (flash_of c.hierarchy).on) is.1 ∙ on
+    ap (λ (c : CoreView T E). (flash_under c.hierarchy).on) is.1 ∙ on
 asked_on None answers old caller number op turn new is uncut on =
     attempt_on answers old caller number op turn new is uncut on
 
 turn_on_by : {T E : Type 0} (powered : Bool) (answers : T → ℕ → ℕ → ℕ → ℕ → Type 0) (old : CoreView T E) (caller : Caller)
     (number : ℕ) (op : Op) (turn : Turn) (new : CoreView T E) → IsTurn powered answers old caller number op turn new
-    → StaysOn (flash_of old.hierarchy) (flash_of new.hierarchy)
+    → StaysOn (flash_under old.hierarchy) (flash_under new.hierarchy)
 turn_on_by {T = T} {E = E} false answers old caller number op turn new is uncut on =
-    ap (λ (c : CoreView T E). (flash_of c.hierarchy).on) is.1 ∙ on
+    ap (λ (c : CoreView T E). (flash_under c.hierarchy).on) is.1 ∙ on
 turn_on_by true answers old caller number op turn new is uncut on =
     asked_on (refusal old.opening.pages old.events op) answers old caller number op turn new is uncut on
 
 -- one event of a call
 pub turn_on : {T E : Type 0} (answers : T → ℕ → ℕ → ℕ → ℕ → Type 0) (old : CoreView T E) (caller : Caller) (number : ℕ) (op : Op)
-    (turn : Turn) (new : CoreView T E) → IsTurn (flash_of old.hierarchy).on answers old caller number op turn new
-    → StaysOn (flash_of old.hierarchy) (flash_of new.hierarchy)
+    (turn : Turn) (new : CoreView T E) → IsTurn (flash_under old.hierarchy).on answers old caller number op turn new
+    → StaysOn (flash_under old.hierarchy) (flash_under new.hierarchy)
 turn_on answers old caller number op turn new is =
-    turn_on_by (flash_of old.hierarchy).on answers old caller number op turn new is
+    turn_on_by (flash_under old.hierarchy).on answers old caller number op turn new is
 
 pub ruleset back_leaves = (back_same, back_on)

@@ -10,7 +10,7 @@ use Rattle.ff_model.specs.declared.op.Op.TheVariants.{Load, Store, Verify, Mark,
 use Rattle.ff_model.specs.declared.op.Reply.{Reply}
 use Rattle.ff_model.specs.declared.op.Reply.TheVariants.{Fault}
 use Rattle.std.specs.Prelude.{None, Some}
-use Rattle.ff_core.specs.Backs.{turned_now, with_turn}
+use Rattle.ff_core.specs.Backs.{turned_now, with_logged}
 use Rattle.ff_core.specs.Core.{CoreView, entry_now, next_number, with_entry}
 use Rattle.ff_core.specs.CoreSound.{has_failed, has_fault, is_failed, is_fault, is_promotion, is_promotion_by, is_served_access, is_served_op}
 use Rattle.ff_core.specs.Hierarchy.{HierarchyView}
@@ -114,7 +114,7 @@ pub recounted-turned : {T E : Type 0} (core : CoreView T E) (kind : Kind) (back 
     → moves_of tally + core.events ≤ moves_of core.tally + events
     → tally.promoted ≡ core.tally.promoted + cond {A = ℕ} (is_promotion_by kind back) 1 0 → is_failed back ≡ false
     → CountsAlike h.policy tally → RunsOnce core.hierarchy.device.store None h.device.store
-    → IsRecounted core core.history events (with_turn (turned_now core kind back) core.log) tally h
+    → IsRecounted core core.history events (with_logged (turned_now core kind back) core.log) tally h
 recounted-turned core kind back events tally h device host moves promoted well alike runs =
     let turn = turned_now core kind back in
     let promotions = count-more is_promotion core.log.turns turn (is_promotion_by kind back) refl in
@@ -133,7 +133,7 @@ recounted-turned core kind back events tally h device host moves promoted well a
 pub recounted-failed : {T E : Type 0} (core : CoreView T E) (kind : Kind) (back : Back) (events : ℕ) (h : HierarchyView T E)
     → core.events ≤ events → is_promotion_by kind back ≡ false → is_failed back ≡ true → CountsAlike h.policy core.tally
     → RunsOnce core.hierarchy.device.store (Some FailedStop) h.device.store
-    → IsRecounted core core.history events (with_turn (turned_now core kind back) core.log) core.tally h
+    → IsRecounted core core.history events (with_logged (turned_now core kind back) core.log) core.tally h
 recounted-failed core kind back events h rose none failed alike runs =
     let turn = turned_now core kind back in
     let promotions = count-more is_promotion core.log.turns turn false none in

@@ -16,8 +16,8 @@ use Rattle.ff_store.specs.PageStore.{PageStoreView}
 use Rattle.ff_device.specs.StoreSteps.{CallsOnce}
 use Rattle.ff_device.specs.WorkRows.{stop_of_work}
 use Rattle.ff_core.specs.CoreSound.{IsSince}
-use Rattle.ff_core.specs.Hierarchy.{HierarchyView, flash_of}
-use Rattle.ff_core.specs.Performs.{HasCollected, IsAdvanced, IsMoved, IsWorkedFor, Performs, collect_progress, progress_of, steps, yields}
+use Rattle.ff_core.specs.Hierarchy.{HierarchyView, flash_under}
+use Rattle.ff_core.specs.Performs.{MakesCollectTurn, IsAdvanced, IsMoved, IsWorkedFor, Performs, collect_progress, progress_of, steps, yields}
 use Rattle.ff_core.specs.declared.action.Action.{Action}
 use Rattle.ff_core.specs.declared.action.Action.TheVariants.{Advance, TurnBack, Work as WorkFor, Promote, Retreat, Evict, Collect, Drain}
 use Rattle.ff_core.specs.declared.action.Progress.{Progress}
@@ -163,20 +163,20 @@ advanced-runs : {T E : Type 0} (slot : ℕ) (h : HierarchyView T E) (progress : 
 advanced-runs slot h progress h' is = moved-runs h progress h' (ap stop_of_progress is.did) is.moved
 
 worked-runs : {T E : Type 0} (page : ℕ) (h : HierarchyView T E) (progress : Progress) (h' : HierarchyView T E)
-    → (flash_of h).on ≡ true → IsWorkedFor page h progress h' → Runs progress h h'
+    → (flash_under h).on ≡ true → IsWorkedFor page h progress h' → Runs progress h h'
 worked-runs page h progress h' on (steps work came step unpinned) =
     rw (ap stop_of_progress came ∙ stop-worked work)
     (runs-called h.device.store h'.device.store (stop_of_work work) on step.calls)
 worked-runs page h progress h' on (yields other slot pinned found is) = advanced-runs slot h progress h' is
 
 collected-runs : {T E : Type 0} (h : HierarchyView T E) (progress : Progress) (h' : HierarchyView T E)
-    → (flash_of h).on ≡ true → HasCollected h progress h' → Runs progress h h'
+    → (flash_under h).on ≡ true → MakesCollectTurn h progress h' → Runs progress h h'
 collected-runs h progress h' on is =
     rw (ap stop_of_progress is.came_to ∙ stop-collected (is_some h.device.store.waits) is.work)
     (runs-called h.device.store h'.device.store (stop_of_work is.work) on is.calls)
 
 pub performs-runs : {T E : Type 0} (action : Action) (h : HierarchyView T E) (progress : Progress) (h' : HierarchyView T E)
-    → (flash_of h).on ≡ true → Performs action h progress h' → Runs progress h h'
+    → (flash_under h).on ≡ true → Performs action h progress h' → Runs progress h h'
 performs-runs (Advance slot) h progress h' on is = advanced-runs slot h progress h' is
 performs-runs (TurnBack slot) h progress h' on is = moved-runs h progress h' (ap stop_of_progress is.did) is.moved
 performs-runs (WorkFor page) h progress h' on is = worked-runs page.0 h progress h' on is

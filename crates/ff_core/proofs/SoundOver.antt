@@ -4,7 +4,7 @@ use Rattle.ff_calls.specs.Told.{IsTold}
 use Rattle.ff_model.specs.History.{Entries}
 use Rattle.ff_core.specs.Core.{CoreView}
 use Rattle.ff_core.specs.CoreSound.{IsCoreSound, IsSized}
-use Rattle.ff_core.specs.Hierarchy.{HierarchyView, flash_of, lines_under}
+use Rattle.ff_core.specs.Hierarchy.{HierarchyView, flash_under, lines_under}
 use Rattle.ff_core.specs.Log.{LogView}
 use Rattle.ff_core.specs.declared.tally.Tally.{Tally}
 use Rattle.ff_core.proofs.Counting.{IsRecounted, counted-over}
@@ -45,7 +45,7 @@ pub record IsLeft {T E : Type 0} (core : CoreView T E) (history : Entries) (even
   pub counts : IsRecounted core history events log tally h
 
 pub sound-over : {T E : Type 0} (core : CoreView T E) (history : Entries) (events : ℕ) (log : LogView) (tally : Tally)
-    (h : HierarchyView T E) → IsCoreSound core → (flash_of core.hierarchy).on ≡ true → IsLeft core history events log tally h
+    (h : HierarchyView T E) → IsCoreSound core → (flash_under core.hierarchy).on ≡ true → IsLeft core history events log tally h
     → IsCoreSound (record core { history = history; events = events; log = log; tally = tally; hierarchy = h })
 sound-over core history events log tally h sound on left = record {
   sized = sized-over core history events log tally h sound.sized left.parts left.calls left.turns;

@@ -10,7 +10,7 @@ use Rattle.ff_model.proofs.Appended.{next_event-append}
 use Rattle.ff_store.specs.PageStore.{PageStoreView}
 use Rattle.ff_core.specs.Core.{CoreView, entry_now, next_number, with_entry}
 use Rattle.ff_core.specs.CoreSound.{IsTimed}
-use Rattle.ff_core.specs.Hierarchy.{HierarchyView, flash_of}
+use Rattle.ff_core.specs.Hierarchy.{HierarchyView, flash_under}
 use Rattle.ff_core.specs.Log.{LogView}
 use Rattle.ff_core.specs.declared.tally.Tally.{Tally}
 
@@ -20,12 +20,12 @@ pub record IsLater {T E : Type 0} (core : CoreView T E) (history : Entries) (eve
   pub rose : core.events ≤ events
   pub not_past : events ≤ last_event
   pub opened : h.device.store.opened ≡ core.hierarchy.device.store.opened
-  pub spent : (flash_of h).on ≡ true → (flash_of h).operations + core.events ≤ (flash_of core.hierarchy).operations + events
-  pub cut : (flash_of h).operations + core.events ≤ (flash_of core.hierarchy).operations + events + 1
+  pub spent : (flash_under h).on ≡ true → (flash_under h).operations + core.events ≤ (flash_under core.hierarchy).operations + events
+  pub cut : (flash_under h).operations + core.events ≤ (flash_under core.hierarchy).operations + events + 1
 
 -- an event with the power on
 pub timed-over : {T E : Type 0} (core : CoreView T E) (history : Entries) (events : ℕ) (log : LogView) (tally : Tally)
-    (h : HierarchyView T E) → IsTimed core → (flash_of core.hierarchy).on ≡ true → IsLater core history events h
+    (h : HierarchyView T E) → IsTimed core → (flash_under core.hierarchy).on ≡ true → IsLater core history events h
     → IsTimed (record core { history = history; events = events; log = log; tally = tally; hierarchy = h })
 timed-over core history events log tally h timed on later =
     let from_on = timed.from_on in
@@ -63,7 +63,7 @@ later-answered core caller number op reply faults h timed store =
 -- a call was answered that an operation was made for
 pub later-fault : {T E : Type 0} (core : CoreView T E) (caller : Caller) (number : ℕ) (op : Op) (reply : Reply) (faults : ℕ)
     (h : HierarchyView T E) → core.events < last_event → h.device.store.opened ≡ core.hierarchy.device.store.opened
-    → (flash_of h).operations ≤ (flash_of core.hierarchy).operations + 1
+    → (flash_under h).operations ≤ (flash_under core.hierarchy).operations + 1
     → IsLater core (with_entry (entry_now core caller number op reply faults) core.history) (next_number core.events) h
 later-fault core caller number op reply faults h going opened one_more =
     let last = next_event-append core.opening core.history.entries (entry_now core caller number op reply faults) in
@@ -79,7 +79,7 @@ later-fault core caller number op reply faults h going opened one_more =
 -- a step was made, and no call was answered
 pub later-stepped : {T E : Type 0} (core : CoreView T E) (h : HierarchyView T E) → IsTimed core → core.events < last_event
     → h.device.store.opened ≡ core.hierarchy.device.store.opened
-    → (flash_of h).operations ≤ (flash_of core.hierarchy).operations + 1
+    → (flash_under h).operations ≤ (flash_under core.hierarchy).operations + 1
     → IsLater core core.history (next_number core.events) h
 later-stepped core h timed going opened one_more =
     let next = timed.next in
@@ -95,7 +95,7 @@ later-stepped core h timed going opened one_more =
 -- an operation was cut, and the power is off
 pub later-cut : {T E : Type 0} (core : CoreView T E) (h : HierarchyView T E) → IsTimed core
     → h.device.store.opened ≡ core.hierarchy.device.store.opened
-    → (flash_of h).operations ≤ (flash_of core.hierarchy).operations + 1 → (flash_of h).on ≡ false
+    → (flash_under h).operations ≤ (flash_under core.hierarchy).operations + 1 → (flash_under h).on ≡ false
     → IsLater core core.history core.events h
 later-cut core h timed opened one_more off = record {
   next = timed.next;

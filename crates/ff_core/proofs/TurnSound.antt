@@ -18,7 +18,7 @@ use Rattle.ff_model.specs.declared.op.Reply.TheVariants.{Range, Spent}
 use Rattle.ff_policy.specs.Policy.{PolicyView}
 use Rattle.ff_core.specs.Core.{CoreView, entry_now, next_number, with_entry}
 use Rattle.ff_core.specs.CoreSound.{IsCoreSound, IsTimed, is_fault, is_served_op}
-use Rattle.ff_core.specs.Hierarchy.{HierarchyView, flash_of, lines_under}
+use Rattle.ff_core.specs.Hierarchy.{HierarchyView, flash_under, lines_under}
 use Rattle.ff_core.specs.Serving.{page_asked}
 use Rattle.ff_core.specs.Tally.{served_by}
 use Rattle.ff_core.specs.Turns.{IsAttempt, IsServed, IsTurn, IsTurnBy, answered, misses, serves}
@@ -34,18 +34,18 @@ use Rattle.ff_core.proofs.Timing.{later-answered}
 -- a call is answered now
 now-answered : {T E : Type 0} (core : CoreView T E) (caller : Caller) (number : ℕ) (op : Op) (reply : Reply) → IsTimed core
     → IsAnswered core.opening core.history.entries (lines_under core.hierarchy)
-    (entry_now core caller number op reply (flash_of core.hierarchy).faults)
+    (entry_now core caller number op reply (flash_under core.hierarchy).faults)
 now-answered core caller number op reply timed = record { later = timed.next; not_past = timed.not_past; faults = refl }
 
 -- a call was refused at once
 refused-sound : {T E : Type 0} (old : CoreView T E) (caller : Caller) (number : ℕ) (op : Op) (reply : Reply) → IsCoreSound old
-    → (flash_of old.hierarchy).on ≡ true → is_served_op op reply ≡ false → is_fault reply ≡ false
+    → (flash_under old.hierarchy).on ≡ true → is_served_op op reply ≡ false → is_fault reply ≡ false
     → IsTold old.opening
-    (with_entry (entry_now old caller number op reply (flash_of old.hierarchy).faults) old.history).entries old.hierarchy.memory
+    (with_entry (entry_now old caller number op reply (flash_under old.hierarchy).faults) old.history).entries old.hierarchy.memory
     (lines_under old.hierarchy)
     → IsCoreSound (answered old caller number op reply)
 refused-sound old caller number op reply sound on unserved well told =
-    let faults : ℕ = (flash_of old.hierarchy).faults in
+    let faults : ℕ = (flash_under old.hierarchy).faults in
     let not_past = sound.timed.not_past in
     sound-over old (with_entry (entry_now old caller number op reply faults) old.history) (next_number old.events) old.log old.tally
     old.hierarchy sound on
@@ -76,10 +76,10 @@ spent-unserved (Release page from count) = refl
 -- a call was served
 served-sound : {T E : Type 0} (answers : T → ℕ → ℕ → ℕ → ℕ → Type 0) (old : CoreView T E) (caller : Caller) (number : ℕ) (op : Op)
     (reply : Reply) (new : CoreView T E) → IsCoreSound old → IsMemorySound old.hierarchy.memory
-    → IsDevice (lines_under old.hierarchy) → (flash_of old.hierarchy).on ≡ true → is_in_range old.opening.pages op ≡ true
+    → IsDevice (lines_under old.hierarchy) → (flash_under old.hierarchy).on ≡ true → is_in_range old.opening.pages op ≡ true
     → old.events < last_event → IsServed answers old caller number op reply new → IsCoreSound new
 served-sound {T} {E} answers old caller number op reply new sound memory device on range going is =
-    let faults : ℕ = (flash_of old.hierarchy).faults in
+    let faults : ℕ = (flash_under old.hierarchy).faults in
     let entry : Entry = entry_now old caller number op reply faults in
     let served : HierarchyView T E = is.between in
     let policy : PolicyView T = new.hierarchy.policy in
@@ -120,7 +120,7 @@ served-sound {T} {E} answers old caller number op reply new sound memory device 
 
 attempt-sound : {T E : Type 0} (answers : T → ℕ → ℕ → ℕ → ℕ → Type 0) (old : CoreView T E) (caller : Caller) (number : ℕ) (op : Op)
     (turn : Turn) (new : CoreView T E) → IsCoreSound old → IsMemorySound old.hierarchy.memory → IsDevice (lines_under old.hierarchy)
-    → (flash_of old.hierarchy).on ≡ true → is_in_range old.opening.pages op ≡ true → old.events < last_event
+    → (flash_under old.hierarchy).on ≡ true → is_in_range old.opening.pages op ≡ true → old.events < last_event
     → IsAttempt answers old caller number op turn new → IsCoreSound new
 attempt-sound answers old caller number op turn new sound memory device on range going (serves reply is serving) =
     served-sound answers old caller number op reply new sound memory device on range going serving
@@ -130,7 +130,7 @@ attempt-sound answers old caller number op turn new sound memory device on range
 -- a call by whether it is in range, and by whether the last event is reached
 asked-sound : {T E : Type 0} (within spent : Bool) (answers : T → ℕ → ℕ → ℕ → ℕ → Type 0) (old : CoreView T E) (caller : Caller)
     (number : ℕ) (op : Op) (turn : Turn) (new : CoreView T E) → IsCoreSound old → IsMemorySound old.hierarchy.memory
-    → IsDevice (lines_under old.hierarchy) → (flash_of old.hierarchy).on ≡ true → is_in_range old.opening.pages op ≡ within
+    → IsDevice (lines_under old.hierarchy) → (flash_under old.hierarchy).on ≡ true → is_in_range old.opening.pages op ≡ within
     → (old.events == last_event) ≡ spent
     → IsTurnBy (if not within then Some Range else if spent then Some Spent else None) answers old caller number op turn new
     → IsCoreSound new
@@ -151,7 +151,7 @@ asked-sound true false answers old caller number op turn new sound memory device
 
 turn-sound-by : {T E : Type 0} (on : Bool) (answers : T → ℕ → ℕ → ℕ → ℕ → Type 0) (old : CoreView T E) (caller : Caller) (number : ℕ)
     (op : Op) (turn : Turn) (new : CoreView T E) → IsCoreSound old → IsMemorySound old.hierarchy.memory
-    → IsDevice (lines_under old.hierarchy) → (flash_of old.hierarchy).on ≡ on → IsTurn on answers old caller number op turn new
+    → IsDevice (lines_under old.hierarchy) → (flash_under old.hierarchy).on ≡ on → IsTurn on answers old caller number op turn new
     → IsCoreSound new
 turn-sound-by {T} {E} false answers old caller number op turn new sound memory device on is =
     subst (λ (c : CoreView T E). IsCoreSound c) (sym is.1) sound
@@ -162,8 +162,8 @@ turn-sound-by true answers old caller number op turn new sound memory device on 
 -- one event of a call
 pub turn-sound : {T E : Type 0} (answers : T → ℕ → ℕ → ℕ → ℕ → Type 0) (old : CoreView T E) (caller : Caller) (number : ℕ) (op : Op)
     (turn : Turn) (new : CoreView T E) → IsCoreSound old → IsMemorySound old.hierarchy.memory → IsDevice (lines_under old.hierarchy)
-    → IsTurn (flash_of old.hierarchy).on answers old caller number op turn new → IsCoreSound new
+    → IsTurn (flash_under old.hierarchy).on answers old caller number op turn new → IsCoreSound new
 turn-sound answers old caller number op turn new sound memory device is =
-    turn-sound-by (flash_of old.hierarchy).on answers old caller number op turn new sound memory device refl is
+    turn-sound-by (flash_under old.hierarchy).on answers old caller number op turn new sound memory device refl is
 
 pub ruleset turn_keeps = turn-sound

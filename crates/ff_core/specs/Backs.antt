@@ -23,12 +23,12 @@ turned_now core kind back =
     record { kind = kind; answer = back; calls = length core.history.entries }
 
 -- the log with one more turn
-abbrev pub with_turn : Turned → LogView → LogView
-with_turn turn log = record log { turns = log.turns ++ turn ∷ [] }
+abbrev pub with_logged : Turned → LogView → LogView
+with_logged turn log = record log { turns = log.turns ++ turn ∷ [] }
 
 -- a turn that did nothing was made
 abbrev pub rested : {T E : Type 0} → CoreView T E → Kind → Back → CoreView T E
-rested core kind back = record core { log = with_turn (turned_now core kind back) core.log }
+rested core kind back = record core { log = with_logged (turned_now core kind back) core.log }
 
 -- what a turn answers for what its action came to: a step of work is one, also where another page made its step for it
 abbrev pub back_of : Action → Progress → Back
@@ -43,7 +43,7 @@ abbrev pub core_after : {T E : Type 0} → Action → Progress → Kind → Core
 core_after action ProgressOff kind core h = record core { hierarchy = h }
 core_after action progress kind core h = record core {
   events = next_number core.events;
-  log = with_turn (turned_now core kind (back_of action progress)) core.log;
+  log = with_logged (turned_now core kind (back_of action progress)) core.log;
   tally = tally_after action progress core.tally;
   hierarchy = h;
 }

@@ -8,7 +8,7 @@ use Rattle.ff_memory.specs.Begins.{CanRetreat, IsComingSlot}
 use Rattle.ff_memory.specs.Located.{IsLocated}
 use Rattle.ff_plb.specs.Plb.{IsInUse}
 use Rattle.ff_core.specs.Choices.{CanCollect, IsPromotable}
-use Rattle.ff_core.specs.Hierarchy.{HierarchyView, flash_of, lines_under}
+use Rattle.ff_core.specs.Hierarchy.{HierarchyView, flash_under, lines_under}
 use Rattle.ff_core.specs.Misses.{IsAbsent}
 use Rattle.ff_core.specs.declared.action.Action.{Action}
 use Rattle.ff_core.specs.declared.action.Action.TheVariants.{Advance, TurnBack, Work, Promote, Retreat, Evict, Collect, Drain}
@@ -16,8 +16,8 @@ use Rattle.ff_core.specs.declared.action.Action.TheVariants.{Advance, TurnBack, 
 -- what stands before each event with the power on
 pub record IsGiven {T E : Type 0} (h : HierarchyView T E) : Type 0 where
   pub located : IsLocated h.memory (lines_under h)
-  pub on : (flash_of h).on ≡ true
-  pub life : HasOperationsLeft (flash_of h)
+  pub on : (flash_under h).on ≡ true
+  pub life : HasOperationsLeft (flash_under h)
   pub counters : length h.policy.counters ≡ length h.memory.table.homes
   pub hand : IsHandInside h.evictor.hand h.memory.frames
 

@@ -11,7 +11,7 @@ use Rattle.ff_model.specs.Legal.{Opening}
 use Rattle.ff_model.specs.declared.history.Entry.{Entry}
 use Rattle.ff_model.specs.declared.op.Op.{Op}
 use Rattle.ff_model.specs.declared.op.Reply.{Reply}
-use Rattle.ff_core.specs.Hierarchy.{HierarchyView, flash_of}
+use Rattle.ff_core.specs.Hierarchy.{HierarchyView, flash_under}
 use Rattle.ff_core.specs.Log.{LogView}
 use Rattle.ff_core.specs.declared.tally.Tally.{Tally}
 
@@ -70,5 +70,5 @@ counts_of core = record {
   programs = core.hierarchy.device.store.world.counts.programs - core.from_counts.programs;
   seals = core.hierarchy.device.store.world.counts.seals - core.from_counts.seals;
   erases = core.hierarchy.device.store.world.counts.erases - core.from_counts.erases;
-  faults = (flash_of core.hierarchy).faults - core.opening.faults;
+  faults = (flash_under core.hierarchy).faults - core.opening.faults;
 }

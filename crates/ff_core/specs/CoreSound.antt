@@ -16,7 +16,7 @@ use Rattle.ff_model.specs.declared.op.Op.TheVariants.{Load, Store}
 use Rattle.ff_model.specs.declared.op.Reply.{Reply}
 use Rattle.ff_model.specs.declared.op.Reply.TheVariants.{Bytes, Done, Fault}
 use Rattle.ff_core.specs.Core.{CoreView, from_operations}
-use Rattle.ff_core.specs.Hierarchy.{flash_of, lines_under}
+use Rattle.ff_core.specs.Hierarchy.{flash_under, lines_under}
 use Rattle.ff_core.specs.declared.log.Back.{Back}
 use Rattle.ff_core.specs.declared.log.Back.TheVariants.{Did, Failed}
 use Rattle.ff_core.specs.declared.log.Turned.{Turned}
@@ -45,9 +45,9 @@ pub record IsTimed {T E : Type 0} (core : CoreView T E) : Type 0 where
   pub from_on : core.opening.event ≤ core.events
   pub not_past : core.events ≤ last_event
   pub few : from_operations core + (last_event - core.opening.event) ≤ 2 ^ 63
-  pub on : (flash_of core.hierarchy).on ≡ true
-      → (flash_of core.hierarchy).operations ≤ from_operations core + events_made core
-  pub off : (flash_of core.hierarchy).operations ≤ from_operations core + events_made core + 1
+  pub on : (flash_under core.hierarchy).on ≡ true
+      → (flash_under core.hierarchy).operations ≤ from_operations core + events_made core
+  pub off : (flash_under core.hierarchy).operations ≤ from_operations core + events_made core + 1
 
 -- the entry is a load or a store that was served
 abbrev pub is_served_op : Op → Reply → Bool
@@ -109,9 +109,9 @@ pub record IsCounted {T E : Type 0} (core : CoreView T E) : Type 0 where
   pub hits : core.hierarchy.policy.hits ≤ core.tally.host
   pub moves : core.tally.landed + core.tally.dropped + core.tally.promoted + core.tally.retreated
       ≤ events_made core
-  pub faults : faults_told core ≤ (flash_of core.hierarchy).faults
-  pub planned : IsSome (flash_of core.hierarchy).plan
-      → faults_told core ≡ (flash_of core.hierarchy).faults
+  pub faults : faults_told core ≤ (flash_under core.hierarchy).faults
+  pub planned : IsSome (flash_under core.hierarchy).plan
+      → faults_told core ≡ (flash_under core.hierarchy).faults
   pub kinds : IsSince core.from_counts core.hierarchy.device.store.world.counts
 
 pub record IsCoreSound {T E : Type 0} (core : CoreView T E) : Type 0 where

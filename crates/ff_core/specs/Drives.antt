@@ -7,7 +7,7 @@ use Rattle.ff_model.specs.declared.op.Op.TheVariants.{Load, Store, Verify, Mark,
 use Rattle.ff_store.specs.Calls.{SameStore}
 use Rattle.ff_core.specs.Core.{CoreView, with_entry}
 use Rattle.ff_core.specs.EventsLeft.{events_left}
-use Rattle.ff_core.specs.Hierarchy.{flash_of}
+use Rattle.ff_core.specs.Hierarchy.{flash_under}
 use Rattle.ff_core.specs.declared.turn.Driven.{Driven}
 use Rattle.ff_core.specs.declared.turn.Driven.TheVariants.{Served, Off}
 use Rattle.ff_core.specs.declared.turn.Turn.{Turn}
@@ -46,7 +46,7 @@ pub data IsAnswered {T E : Type 0} (old : CoreView T E) (caller : Caller) (numbe
         faults = faults;
       }) old.history
       → IsAnswered old caller number op driven new
-  cut : driven ≡ Off → new.history ≡ old.history → (flash_of new.hierarchy).on ≡ false
+  cut : driven ≡ Off → new.history ≡ old.history → (flash_under new.hierarchy).on ≡ false
       → IsAnswered old caller number op driven new
 
 -- what an event of a call comes to: it answers the call, or it leaves fewer events
@@ -66,8 +66,8 @@ pub record IsEvent {T E : Type 0} (old : CoreView T E) (caller : Caller) (number
   pub log : new.log ≡ old.log
   pub same : SameSession old new
   pub events : new.events ≤ old.events + 1
-  pub no_fall : (flash_of old.hierarchy).operations ≤ (flash_of new.hierarchy).operations
-  pub one_more : (flash_of new.hierarchy).operations ≤ (flash_of old.hierarchy).operations + 1
+  pub no_fall : (flash_under old.hierarchy).operations ≤ (flash_under new.hierarchy).operations
+  pub one_more : (flash_under new.hierarchy).operations ≤ (flash_under old.hierarchy).operations + 1
 
 pub record IsDriven {T E : Type 0} (old : CoreView T E) (caller : Caller) (number : ℕ) (op : Op)
     (driven : Driven) (new : CoreView T E) : Type 0 where
@@ -75,6 +75,6 @@ pub record IsDriven {T E : Type 0} (old : CoreView T E) (caller : Caller) (numbe
   pub log : new.log ≡ old.log
   pub same : SameSession old new
   pub events : new.events ≤ old.events + most_events old.geometry op
-  pub no_fall : (flash_of old.hierarchy).operations ≤ (flash_of new.hierarchy).operations
-  pub operations : (flash_of new.hierarchy).operations
-      ≤ (flash_of old.hierarchy).operations + most_events old.geometry op
+  pub no_fall : (flash_under old.hierarchy).operations ≤ (flash_under new.hierarchy).operations
+  pub operations : (flash_under new.hierarchy).operations
+      ≤ (flash_under old.hierarchy).operations + most_events old.geometry op

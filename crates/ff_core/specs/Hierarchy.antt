@@ -17,5 +17,5 @@ abbrev pub lines_under : {T E : Type 0} → HierarchyView T E → DeviceState
 lines_under h = lines_in h.device
 
 -- the flash under all
-abbrev pub flash_of : {T E : Type 0} → HierarchyView T E → FlashState
-flash_of h = h.device.store.world.flash
+abbrev pub flash_under : {T E : Type 0} → HierarchyView T E → FlashState
+flash_under h = h.device.store.world.flash

@@ -56,9 +56,9 @@ pub record IsAway {T E : Type 0} (h : HierarchyView T E) (page : ℕ) : Type 0 w
   pub away : is_home h.memory page ≡ false
 
 -- a call misses a page: a load or a store one that isn't resident, and a mark one that isn't home
-abbrev pub IsMissed : {T E : Type 0} → Op → PageNo → HierarchyView T E → Type 0
-IsMissed (Load at len) page h = IsAbsent h page.0
-IsMissed (Store at bytes) page h = IsAbsent h page.0
-IsMissed (Mark marked from count) page h = IsAway h page.0
-IsMissed Verify page h = ⊥
-IsMissed (Release released from count) page h = ⊥
+abbrev pub MissesPage : {T E : Type 0} → Op → PageNo → HierarchyView T E → Type 0
+MissesPage (Load at len) page h = IsAbsent h page.0
+MissesPage (Store at bytes) page h = IsAbsent h page.0
+MissesPage (Mark marked from count) page h = IsAway h page.0
+MissesPage Verify page h = ⊥
+MissesPage (Release released from count) page h = ⊥

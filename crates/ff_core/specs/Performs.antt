@@ -124,7 +124,7 @@ collect_progress waits WorkOff = Off
 collect_progress waits work = Did (collected_what waits)
 
 -- the flush that waits was sealed, or the collector made a step
-pub record HasCollected {T E : Type 0} (h : HierarchyView T E) (progress : Progress)
+pub record MakesCollectTurn {T E : Type 0} (h : HierarchyView T E) (progress : Progress)
     (h' : HierarchyView T E) : Type 0 where
   pub work : Work
   pub turn : IsCollectTurn h.device work h'.device
@@ -134,7 +134,7 @@ pub record HasCollected {T E : Type 0} (h : HierarchyView T E) (progress : Progr
   pub rest : h' ≡ record h { device = h'.device }
 
 -- the oldest post was drained
-pub record HasDrained {T E : Type 0} (h : HierarchyView T E) (progress : Progress)
+pub record DrainsOldest {T E : Type 0} (h : HierarchyView T E) (progress : Progress)
     (h' : HierarchyView T E) : Type 0 where
   pub did : progress ≡ Did Drained
   pub drained : DrainsFirst 1 (lines_under h) (lines_under h')
@@ -149,5 +149,5 @@ Performs (WorkFor page) h progress h' = IsWorkedFor page.0 h progress h'
 Performs (Promote page) h progress h' = HasPromoted page.0 h progress h'
 Performs (Retreat page) h progress h' = HasRetreated page.0 h progress h'
 Performs (Evict frame) h progress h' = HasEvicted frame h progress h'
-Performs Collect h progress h' = HasCollected h progress h'
-Performs Drain h progress h' = HasDrained h progress h'
+Performs Collect h progress h' = MakesCollectTurn h progress h'
+Performs Drain h progress h' = DrainsOldest h progress h'

@@ -10,7 +10,7 @@ use Rattle.ff_model.specs.declared.op.Op.{Op}
 use Rattle.ff_model.specs.declared.op.Reply.{Reply}
 use Rattle.ff_model.specs.declared.op.Reply.TheVariants.{Range, Spent, Fault}
 use Rattle.ff_core.specs.Core.{CoreView, entry_now, next_number, with_entry}
-use Rattle.ff_core.specs.Hierarchy.{HierarchyView, flash_of}
+use Rattle.ff_core.specs.Hierarchy.{HierarchyView, flash_under}
 use Rattle.ff_core.specs.Misses.{IsMissAction}
 use Rattle.ff_core.specs.Performs.{Performs}
 use Rattle.ff_core.specs.Serving.{IsAccess, PolicyAfter, page_asked}
@@ -32,7 +32,7 @@ refusal pages event op =
 abbrev pub answered : {T E : Type 0} → CoreView T E → Caller → ℕ → Op → Reply → CoreView T E
 answered core caller number op reply = record core {
   history = with_entry
-      (entry_now core caller number op reply (flash_of core.hierarchy).faults) core.history;
+      (entry_now core caller number op reply (flash_under core.hierarchy).faults) core.history;
   events = next_number core.events;
 }
 
@@ -63,7 +63,7 @@ AfterStep (Did what) action page old caller number op turn h new =
 AfterStep Failed action page old caller number op turn h new =
     (turn ≡ Served Fault)
     × (new ≡ record old {
-      history = with_entry (entry_now old caller number op Fault (flash_of h).faults) old.history;
+      history = with_entry (entry_now old caller number op Fault (flash_under h).faults) old.history;
       events = next_number old.events;
       hierarchy = h;
     })

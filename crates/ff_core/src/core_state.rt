@@ -11,7 +11,7 @@ ghost use Rattle.ff_core.specs.Core.{counts_of, spare_calls, spare_turns};
 ghost use Rattle.ff_core.specs.CoreSound.{IsCoreSound};
 ghost use Rattle.ff_core.specs.Drives.{SameSession};
 ghost use Rattle.ff_core.specs.Fresh.{IsFreshFlash, fresh_core};
-ghost use Rattle.ff_core.specs.Hierarchy.{flash_of, lines_under};
+ghost use Rattle.ff_core.specs.Hierarchy.{flash_under, lines_under};
 ghost use Rattle.ff_core.specs.Turns.{IsTurn};
 ghost use Rattle.ff_core.specs.Uncut.{StaysOn};
 
@@ -95,7 +95,7 @@ impl<F: Flash, T: Tune, E: Pick> Core<F, T, E> {
     #[tactic(auto, using(crate::proofs::TurnSound::turn_keeps))]
     pub fn turn(&mut self, caller: Caller, number: u32, op: &Op) -> Turn
         requires spare { 0 < spare_calls self.old }
-        ensures { IsTurn (flash_of self.old.hierarchy).on T.answers self.old caller number op.now
+        ensures { IsTurn (flash_under self.old.hierarchy).on T.answers self.old caller number op.now
             result self.new }
     {
         self.parts_known();
@@ -107,9 +107,9 @@ impl<F: Flash, T: Tune, E: Pick> Core<F, T, E> {
     #[tactic(auto, using(crate::proofs::BackSound::back_keeps, crate::proofs::Powered::back_leaves))]
     pub fn promote_turn(&mut self) -> Back
         requires spare { 0 < spare_turns self.old }
-        ensures back { IsBack (flash_of self.old.hierarchy).on E.score Promote self.old result self.new }
+        ensures back { IsBack (flash_under self.old.hierarchy).on E.score Promote self.old result self.new }
         ensures same { SameSession self.old self.new }
-        ensures on { StaysOn (flash_of self.old.hierarchy) (flash_of self.new.hierarchy) }
+        ensures on { StaysOn (flash_under self.old.hierarchy) (flash_under self.new.hierarchy) }
     {
         self.parts_known();
         self.state.back(Kind::Promote)
@@ -119,9 +119,9 @@ impl<F: Flash, T: Tune, E: Pick> Core<F, T, E> {
     #[tactic(auto, using(crate::proofs::BackSound::back_keeps, crate::proofs::Powered::back_leaves))]
     pub fn evict_turn(&mut self) -> Back
         requires spare { 0 < spare_turns self.old }
-        ensures back { IsBack (flash_of self.old.hierarchy).on E.score Evict self.old result self.new }
+        ensures back { IsBack (flash_under self.old.hierarchy).on E.score Evict self.old result self.new }
         ensures same { SameSession self.old self.new }
-        ensures on { StaysOn (flash_of self.old.hierarchy) (flash_of self.new.hierarchy) }
+        ensures on { StaysOn (flash_under self.old.hierarchy) (flash_under self.new.hierarchy) }
     {
         self.parts_known();
         self.state.back(Kind::Evict)
@@ -131,9 +131,9 @@ impl<F: Flash, T: Tune, E: Pick> Core<F, T, E> {
     #[tactic(auto, using(crate::proofs::BackSound::back_keeps, crate::proofs::Powered::back_leaves))]
     pub fn collect_turn(&mut self) -> Back
         requires spare { 0 < spare_turns self.old }
-        ensures back { IsBack (flash_of self.old.hierarchy).on E.score Collect self.old result self.new }
+        ensures back { IsBack (flash_under self.old.hierarchy).on E.score Collect self.old result self.new }
         ensures same { SameSession self.old self.new }
-        ensures on { StaysOn (flash_of self.old.hierarchy) (flash_of self.new.hierarchy) }
+        ensures on { StaysOn (flash_under self.old.hierarchy) (flash_under self.new.hierarchy) }
     {
         self.parts_known();
         self.state.back(Kind::Collect)
@@ -143,9 +143,9 @@ impl<F: Flash, T: Tune, E: Pick> Core<F, T, E> {
     #[tactic(auto, using(crate::proofs::BackSound::back_keeps, crate::proofs::Powered::back_leaves))]
     pub fn drain_turn(&mut self) -> Back
         requires spare { 0 < spare_turns self.old }
-        ensures back { IsBack (flash_of self.old.hierarchy).on E.score Drain self.old result self.new }
+        ensures back { IsBack (flash_under self.old.hierarchy).on E.score Drain self.old result self.new }
         ensures same { SameSession self.old self.new }
-        ensures on { StaysOn (flash_of self.old.hierarchy) (flash_of self.new.hierarchy) }
+        ensures on { StaysOn (flash_under self.old.hierarchy) (flash_under self.new.hierarchy) }
     {
         self.parts_known();
         self.state.back(Kind::Drain)
@@ -219,7 +219,7 @@ impl<F: Flash, T: Tune, E: Pick> Core<F, T, E> {
 
     /// The flash, to be looked at.
     pub fn flash(&self) -> &F
-        ensures { F.state result.now ≡ flash_of self.now.hierarchy }
+        ensures { F.state result.now ≡ flash_under self.now.hierarchy }
     {
         self.state.hierarchy.device.store().flash()
     }

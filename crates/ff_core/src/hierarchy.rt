@@ -35,18 +35,18 @@ impl<F: Flash, T: Tune, E: Pick> Model for Hierarchy<F, T, E> {
 }
 
 impl<F: Flash, T: Tune, E: Pick> Hierarchy<F, T, E> {
-    ghost use Rattle.ff_core.specs.Hierarchy.{flash_of};
+    ghost use Rattle.ff_core.specs.Hierarchy.{flash_under};
 
     // Whether the power is on.
     pub(crate) fn is_on(&self) -> bool
-        ensures { result ≡ (flash_of self.now).on }
+        ensures { result ≡ (flash_under self.now).on }
     {
         self.device.store().flash().is_on()
     }
 
     // How often the flash has failed.
     pub(crate) fn faults(&self) -> u64
-        ensures { result ≡ (flash_of self.now).faults }
+        ensures { result ≡ (flash_under self.now).faults }
     {
         self.device.store().flash().fault_count()
     }

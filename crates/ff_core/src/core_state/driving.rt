@@ -2,7 +2,7 @@
 ghost use Rattle.std.specs.Prelude.{◌≡◌, ◌<◌, ◌^◌};
 ghost use Rattle.ff_core.specs.Core.{spare_calls};
 ghost use Rattle.ff_core.specs.Drives.{IsDriven, IsEvent, most_events};
-ghost use Rattle.ff_core.specs.Hierarchy.{flash_of};
+ghost use Rattle.ff_core.specs.Hierarchy.{flash_under};
 ghost use Rattle.ff_core.specs.Uncut.{StaysOn};
 
 use super::Core;
@@ -40,7 +40,7 @@ impl<F: Flash, T: Tune, E: Pick> Core<F, T, E> {
     fn event(&mut self, caller: Caller, number: u32, op: &Op) -> Turn
         requires spare { 0 < spare_calls self.old }
         ensures event { IsEvent self.old caller number op.now result self.new }
-        ensures on { StaysOn (flash_of self.old.hierarchy) (flash_of self.new.hierarchy) }
+        ensures on { StaysOn (flash_under self.old.hierarchy) (flash_under self.new.hierarchy) }
     {
         self.parts_known();
         let turn = self.turn(caller, number, op);
@@ -53,7 +53,7 @@ impl<F: Flash, T: Tune, E: Pick> Core<F, T, E> {
     pub fn drive(&mut self, caller: Caller, number: u32, op: &Op) -> Driven
         requires spare { 0 < spare_calls self.old }
         ensures driven { IsDriven self.old caller number op.now result self.new }
-        ensures on { StaysOn (flash_of self.old.hierarchy) (flash_of self.new.hierarchy) }
+        ensures on { StaysOn (flash_under self.old.hierarchy) (flash_under self.new.hierarchy) }
     {
         self.parts_known();
         for _event in 0..most_events(self.geometry(), op) {

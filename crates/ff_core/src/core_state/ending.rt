@@ -1,7 +1,7 @@
 // How a session ends.
 ghost use Rattle.std.specs.Prelude.{◌≡◌};
 ghost use Rattle.ff_core.specs.CoreSound.{IsCoreSound};
-ghost use Rattle.ff_core.specs.Hierarchy.{flash_of};
+ghost use Rattle.ff_core.specs.Hierarchy.{flash_under};
 ghost use Rattle.ff_core.specs.Record.{record_of};
 
 use super::Core;
@@ -28,7 +28,7 @@ impl<F: Flash, T: Tune, E: Pick> Core<F, T, E> {
     pub fn finish(self) -> Ended<F, T, E>
         ensures base { result.base ≡ self.opening.base }
         ensures account { result.account ≡ record_of self }
-        ensures flash { F.state result.flash ≡ flash_of self.hierarchy }
+        ensures flash { F.state result.flash ≡ flash_under self.hierarchy }
         ensures tuner { result.tuner ≡ self.hierarchy.policy.tuner }
         ensures picker { result.picker ≡ self.hierarchy.evictor.picker }
     {
@@ -40,7 +40,7 @@ fn end<F: Flash, T: Tune, E: Pick>(state: State<F, T, E>) -> Ended<F, T, E>
     requires { IsCoreSound state }
     ensures base { result.base ≡ state.opening.base }
     ensures account { result.account ≡ record_of state }
-    ensures flash { F.state result.flash ≡ flash_of state.hierarchy }
+    ensures flash { F.state result.flash ≡ flash_under state.hierarchy }
     ensures tuner { result.tuner ≡ state.hierarchy.policy.tuner }
     ensures picker { result.picker ≡ state.hierarchy.evictor.picker }
 {

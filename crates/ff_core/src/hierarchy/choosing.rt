@@ -2,7 +2,7 @@
 ghost use Rattle.std.specs.Prelude.{◌≡◌, ◌<◌, ℕ, length, MatchOption, IsTrue, ◌↔◌};
 ghost use Rattle.ff_evict.specs.Evictor.{IsHandInside};
 ghost use Rattle.ff_core.specs.Choices.{CollectChoice, DrainChoice, EvictChoice, IsChoice, IsLeastPromotable, IsNextSlot, IsNoneMoving, IsPromotable, PromoteChoice};
-ghost use Rattle.ff_core.specs.Misses.{IsActionAtRest, IsMarkAction, IsMissAction, IsMissed, action_in_flight};
+ghost use Rattle.ff_core.specs.Misses.{IsActionAtRest, IsMarkAction, IsMissAction, MissesPage, action_in_flight};
 ghost use Rattle.ff_plb.specs.Plb.{HasEntry, IsInUse};
 ghost use Rattle.ff_plb.specs.declared.slot.Slot.{Slot};
 ghost use Rattle.ff_plb.specs.declared.slot.Way.TheVariants.{Leaving};
@@ -131,7 +131,7 @@ impl<F: Flash, T: Tune, E: Pick> Hierarchy<F, T, E> {
 
     // What is done for a load, a store or a mark that missed this page.
     pub(crate) fn miss_action(&self, op: &Op, page: PageNo) -> Action
-        requires missed { IsMissed op.now page self.now }
+        requires missed { MissesPage op.now page self.now }
         ensures { IsMissAction op.now page self.now result }
     {
         match op {

@@ -11,7 +11,7 @@ ghost use Rattle.ff_core.specs.CanPerform.{CanPerform, IsEvictable, IsGiven};
 ghost use Rattle.ff_core.specs.Choices.{CanCollect, IsPromotable};
 ghost use Rattle.ff_core.specs.Hierarchy.{lines_under};
 ghost use Rattle.ff_core.specs.Misses.{IsAbsent};
-ghost use Rattle.ff_core.specs.Performs.{HasCollected, HasDrained, HasEvicted, HasPromoted, HasRetreated, IsAdvanced, IsDeviceStep, IsTurnedBack, IsWorkedFor, Performs, progress_of};
+ghost use Rattle.ff_core.specs.Performs.{MakesCollectTurn, DrainsOldest, HasEvicted, HasPromoted, HasRetreated, IsAdvanced, IsDeviceStep, IsTurnedBack, IsWorkedFor, Performs, progress_of};
 
 use crate::action::{Action, Progress};
 use crate::hierarchy::Hierarchy;
@@ -154,7 +154,7 @@ impl<F: Flash, T: Tune, E: Pick> Hierarchy<F, T, E> {
     fn collect(&mut self) -> Progress
         requires given { IsGiven self.old }
         requires may { CanCollect self.old }
-        ensures { HasCollected self.old result self.new }
+        ensures { MakesCollectTurn self.old result self.new }
     {
         let what = if self.device.is_pending() {
             What::Sealed
@@ -171,7 +171,7 @@ impl<F: Flash, T: Tune, E: Pick> Hierarchy<F, T, E> {
     fn drain(&mut self) -> Progress
         requires given { IsGiven self.old }
         requires may { 0 < length self.old.device.window.posts }
-        ensures { HasDrained self.old result self.new }
+        ensures { DrainsOldest self.old result self.new }
     {
         self.device.drain_one();
         Progress::Did(What::Drained)

@@ -3,8 +3,8 @@ ghost use Rattle.std.specs.Prelude.{◌≡◌, ◌<◌, ◌≤◌, ◌+◌, ◌^
 ghost use Rattle.ff_base.specs.Count.{last_event};
 ghost use Rattle.ff_core.specs.Core.{spare_calls};
 ghost use Rattle.ff_core.specs.CoreSound.{IsCoreSound};
-ghost use Rattle.ff_core.specs.Hierarchy.{flash_of};
-ghost use Rattle.ff_core.specs.Misses.{IsMissed};
+ghost use Rattle.ff_core.specs.Hierarchy.{flash_under};
+ghost use Rattle.ff_core.specs.Misses.{MissesPage};
 ghost use Rattle.ff_core.specs.Serving.{PolicyAfter, page_asked};
 ghost use Rattle.ff_core.specs.Tally.{served_by};
 ghost use Rattle.ff_core.specs.Turns.{IsAttempt, IsMissStep, IsTurn, answered, refusal};
@@ -26,7 +26,7 @@ impl<F: Flash, T: Tune, E: Pick> State<F, T, E> {
     pub(crate) fn turn(&mut self, caller: Caller, number: u32, op: &Op) -> Turn
         requires sound { IsCoreSound self.old }
         requires spare { 0 < spare_calls self.old }
-        ensures { IsTurn (flash_of self.old.hierarchy).on T.answers self.old caller number op.now
+        ensures { IsTurn (flash_under self.old.hierarchy).on T.answers self.old caller number op.now
             result self.new }
     {
         if !self.hierarchy.is_on() {
@@ -82,7 +82,7 @@ impl<F: Flash, T: Tune, E: Pick> State<F, T, E> {
     // A call that isn't refused at once.
     fn attempt(&mut self, caller: Caller, number: u32, op: &Op) -> Turn
         requires sound { IsCoreSound self.old }
-        requires on { (flash_of self.old.hierarchy).on ≡ true }
+        requires on { (flash_under self.old.hierarchy).on ≡ true }
         requires spare { 0 < spare_calls self.old }
         requires asked { refusal self.old.opening.pages self.old.events op.now ≡ None }
         ensures { IsAttempt T.answers self.old caller number op.now result self.new }
@@ -119,10 +119,10 @@ impl<F: Flash, T: Tune, E: Pick> State<F, T, E> {
     // One step for a call that missed this page.
     fn miss(&mut self, caller: Caller, number: u32, op: &Op, page: PageNo) -> Turn
         requires sound { IsCoreSound self.old }
-        requires on { (flash_of self.old.hierarchy).on ≡ true }
+        requires on { (flash_under self.old.hierarchy).on ≡ true }
         requires spare { 0 < spare_calls self.old }
         requires time { self.old.events < last_event }
-        requires missed { IsMissed op.now page self.old.hierarchy }
+        requires missed { MissesPage op.now page self.old.hierarchy }
         ensures { IsMissStep page self.old caller number op.now result self.new }
     {
         let action = self.hierarchy.miss_action(op, page);

@@ -1,11 +1,11 @@
 // The events of background turns.
 ghost use Rattle.std.specs.Prelude.{◌≡◌, ◌<◌, ◌≤◌, Some, true};
 ghost use Rattle.ff_base.specs.Count.{last_event};
-ghost use Rattle.ff_core.specs.Backs.{IsBack, IsPerformed, back_of, rested, turned_now, with_turn};
+ghost use Rattle.ff_core.specs.Backs.{IsBack, IsPerformed, back_of, rested, turned_now, with_logged};
 ghost use Rattle.ff_core.specs.Choices.{IsChoice};
 ghost use Rattle.ff_core.specs.Core.{next_number, spare_turns};
 ghost use Rattle.ff_core.specs.CoreSound.{IsCoreSound};
-ghost use Rattle.ff_core.specs.Hierarchy.{flash_of};
+ghost use Rattle.ff_core.specs.Hierarchy.{flash_under};
 ghost use Rattle.ff_core.specs.declared.action.Progress.TheVariants.{Did};
 
 use super::next_number;
@@ -24,7 +24,7 @@ impl<F: Flash, T: Tune, E: Pick> State<F, T, E> {
     pub(crate) fn back(&mut self, kind: Kind) -> Back
         requires sound { IsCoreSound self.old }
         requires spare { 0 < spare_turns self.old }
-        ensures { IsBack (flash_of self.old.hierarchy).on E.score kind self.old result self.new }
+        ensures { IsBack (flash_under self.old.hierarchy).on E.score kind self.old result self.new }
     {
         if !self.hierarchy.is_on() {
             return Back::Off;
@@ -56,7 +56,7 @@ impl<F: Flash, T: Tune, E: Pick> State<F, T, E> {
     // Performs what a turn chose.
     fn act(&mut self, kind: Kind, action: Action) -> Back
         requires sound { IsCoreSound self.old }
-        requires on { (flash_of self.old.hierarchy).on ≡ true }
+        requires on { (flash_under self.old.hierarchy).on ≡ true }
         requires spare { 0 < spare_turns self.old }
         requires time { self.old.events < last_event }
         requires choice { IsChoice E.score kind self.old.hierarchy (Some action) }
@@ -79,7 +79,7 @@ impl<F: Flash, T: Tune, E: Pick> State<F, T, E> {
         ensures back { result ≡ answer }
         ensures core { self.new ≡ record self.old {
           events = next_number self.old.events;
-          log = with_turn (turned_now self.old kind answer) self.old.log;
+          log = with_logged (turned_now self.old kind answer) self.old.log;
         } }
     {
         self.events = next_number(self.events);

@@ -1,7 +1,7 @@
 use Rattle.std.proofs.Common.{◌≡◌, ap, ◌∙◌, arith}
 use Rattle.ff_base.specs.declared.geometry.Geometry.{Geometry}
 use Rattle.ff_core.specs.Drives.{most_events}
-use Rattle.ff_core.specs.Hierarchy.{flash_of}
+use Rattle.ff_core.specs.Hierarchy.{flash_under}
 use Rattle.ff_core.proofs.Driving.{core_few, driven_ends, driven_more, driven_off, driven_served, driven_spare}
 use Rattle.ff_core.proofs.Powered.{stays_more}
 use Rattle.ff_core.proofs.core_state.Core.drive.Goals as goal
@@ -17,7 +17,7 @@ returns-in-Served g c = record {
       driven_served c.loop-event._event c.args.op.now c.args.caller c.args.number c.in-Served.reply c.args.self.now c.loop-event.self
       c.event.new.self c.loop-event.invariant.driven
       (core_few c.args.op.now c.args.self.now c.parts_known.ensures.sound c.parts_known.ensures.device) c.in-Served.ensures.event;
-  on = stays_more (flash_of c.args.self.now.hierarchy) (flash_of c.loop-event.self.hierarchy) (flash_of c.event.new.self.hierarchy)
+  on = stays_more (flash_under c.args.self.now.hierarchy) (flash_under c.loop-event.self.hierarchy) (flash_under c.event.new.self.hierarchy)
       c.loop-event.invariant.driven.same.store.plan c.loop-event.invariant.on c.in-Served.ensures.on;
 }
 
@@ -27,7 +27,7 @@ returns-in-Off g c = record {
       driven_off c.loop-event._event c.args.op.now c.args.caller c.args.number c.args.self.now c.loop-event.self c.event.new.self
       c.loop-event.invariant.driven (core_few c.args.op.now c.args.self.now c.parts_known.ensures.sound c.parts_known.ensures.device)
       c.in-Off.ensures.event;
-  on = stays_more (flash_of c.args.self.now.hierarchy) (flash_of c.loop-event.self.hierarchy) (flash_of c.event.new.self.hierarchy)
+  on = stays_more (flash_under c.args.self.now.hierarchy) (flash_under c.loop-event.self.hierarchy) (flash_under c.event.new.self.hierarchy)
       c.loop-event.invariant.driven.same.store.plan c.loop-event.invariant.on c.in-Off.ensures.on;
 }
 
@@ -36,7 +36,7 @@ loop-event-preserved g c = record {
   driven =
       driven_more c.loop-event._event c.args.op.now c.args.caller c.args.number _ c.args.self.now c.loop-event.self c.event.new.self
       c.loop-event.invariant.driven c.in-Miss.ensures.event;
-  on = stays_more (flash_of c.args.self.now.hierarchy) (flash_of c.loop-event.self.hierarchy) (flash_of c.event.new.self.hierarchy)
+  on = stays_more (flash_under c.args.self.now.hierarchy) (flash_under c.loop-event.self.hierarchy) (flash_under c.event.new.self.hierarchy)
       c.loop-event.invariant.driven.same.store.plan c.loop-event.invariant.on c.in-Miss.ensures.on;
 }
 
