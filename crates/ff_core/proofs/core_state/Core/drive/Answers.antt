@@ -1,4 +1,4 @@
-use Rattle.std.proofs.Common.{◌≡◌, ◌≤◌, ℕ, ap, ◌∙◌, arith}
+use Rattle.std.proofs.Common.{◌≡◌, ap, ◌∙◌, arith}
 use Rattle.ff_base.specs.declared.geometry.Geometry.{Geometry}
 use Rattle.ff_core.specs.Drives.{most_events}
 use Rattle.ff_core.specs.Hierarchy.{flash_of}
@@ -14,9 +14,9 @@ event-requires g c = record {
 pub returns-in-Served : goal.returns-in-Served
 returns-in-Served g c = record {
   driven =
-    driven_served c.loop-event._event c.args.op.now c.args.caller c.args.number c.in-Served.reply c.args.self.now c.loop-event.self
-    c.event.new.self c.loop-event.invariant.driven
-    (core_few c.args.op.now c.args.self.now c.parts_known.ensures.sound c.parts_known.ensures.device) c.in-Served.ensures.event;
+      driven_served c.loop-event._event c.args.op.now c.args.caller c.args.number c.in-Served.reply c.args.self.now c.loop-event.self
+      c.event.new.self c.loop-event.invariant.driven
+      (core_few c.args.op.now c.args.self.now c.parts_known.ensures.sound c.parts_known.ensures.device) c.in-Served.ensures.event;
   on = stays_more (flash_of c.args.self.now.hierarchy) (flash_of c.loop-event.self.hierarchy) (flash_of c.event.new.self.hierarchy)
       c.loop-event.invariant.driven.same.store.plan c.loop-event.invariant.on c.in-Served.ensures.on;
 }
@@ -24,9 +24,9 @@ returns-in-Served g c = record {
 pub returns-in-Off : goal.returns-in-Off
 returns-in-Off g c = record {
   driven =
-    driven_off c.loop-event._event c.args.op.now c.args.caller c.args.number c.args.self.now c.loop-event.self c.event.new.self
-    c.loop-event.invariant.driven (core_few c.args.op.now c.args.self.now c.parts_known.ensures.sound c.parts_known.ensures.device)
-    c.in-Off.ensures.event;
+      driven_off c.loop-event._event c.args.op.now c.args.caller c.args.number c.args.self.now c.loop-event.self c.event.new.self
+      c.loop-event.invariant.driven (core_few c.args.op.now c.args.self.now c.parts_known.ensures.sound c.parts_known.ensures.device)
+      c.in-Off.ensures.event;
   on = stays_more (flash_of c.args.self.now.hierarchy) (flash_of c.loop-event.self.hierarchy) (flash_of c.event.new.self.hierarchy)
       c.loop-event.invariant.driven.same.store.plan c.loop-event.invariant.on c.in-Off.ensures.on;
 }
@@ -34,8 +34,8 @@ returns-in-Off g c = record {
 pub loop-event-preserved : goal.loop-event-preserved
 loop-event-preserved g c = record {
   driven =
-    driven_more c.loop-event._event c.args.op.now c.args.caller c.args.number _ c.args.self.now c.loop-event.self c.event.new.self
-    c.loop-event.invariant.driven c.in-Miss.ensures.event;
+      driven_more c.loop-event._event c.args.op.now c.args.caller c.args.number _ c.args.self.now c.loop-event.self c.event.new.self
+      c.loop-event.invariant.driven c.in-Miss.ensures.event;
   on = stays_more (flash_of c.args.self.now.hierarchy) (flash_of c.loop-event.self.hierarchy) (flash_of c.event.new.self.hierarchy)
       c.loop-event.invariant.driven.same.store.plan c.loop-event.invariant.on c.in-Miss.ensures.on;
 }
