@@ -1,10 +1,8 @@
 -- What an event leaves of a session, and that the power stays on where no cut is planned.
 use Rattle.std.proofs.Common.{◌≡◌, ◌==◌, ℕ, Bool, true, false, List, [], Option, Some, None, refl, sym, ap, ◌∙◌, subst}
 use Rattle.std.specs.Prelude.{if◌then◌else◌}
-use Rattle.std.proofs.lemmas.Option.{none-some}
 use Rattle.ff_base.specs.Count.{last_event}
 use Rattle.ff_base.specs.declared.numbers.Caller.{Caller}
-use Rattle.ff_base.specs.declared.numbers.PageNo.{PageNo}
 use Rattle.ff_flash.specs.FlashState.{FlashState, Operates}
 use Rattle.ff_flash.specs.Injected.{injected_answer, stop_of}
 use Rattle.ff_flash.specs.Plans.{Planned, cut_at, cut_injected, due_stop, is_listed}
@@ -19,7 +17,7 @@ use Rattle.ff_model.specs.declared.op.Reply.{Reply}
 use Rattle.ff_store.specs.Calls.{SameStore}
 use Rattle.ff_store.specs.PageStore.{PageStoreView}
 use Rattle.ff_device.specs.StoreSteps.{CallsOnce}
-use Rattle.ff_core.specs.Backs.{IsBack, IsBackAt, IsBackBy, IsPerformed, core_after, rested}
+use Rattle.ff_core.specs.Backs.{IsBack, IsBackAt, IsBackBy, core_after, rested}
 use Rattle.ff_core.specs.Core.{CoreView}
 use Rattle.ff_core.specs.Drives.{SameSession}
 use Rattle.ff_core.specs.Hierarchy.{HierarchyView, flash_under}

@@ -107,7 +107,8 @@ impl<F: Flash, T: Tune, E: Pick> Core<F, T, E> {
     #[tactic(auto, using(crate::proofs::BackSound::back_keeps, crate::proofs::Powered::back_leaves))]
     pub fn promote_turn(&mut self) -> Back
         requires spare { 0 < spare_turns self.old }
-        ensures back { IsBack (flash_under self.old.hierarchy).on E.score Promote self.old result self.new }
+        ensures back { IsBack (flash_under self.old.hierarchy).on E.score Promote self.old result
+            self.new }
         ensures same { SameSession self.old self.new }
         ensures on { StaysOn (flash_under self.old.hierarchy) (flash_under self.new.hierarchy) }
     {
@@ -119,7 +120,8 @@ impl<F: Flash, T: Tune, E: Pick> Core<F, T, E> {
     #[tactic(auto, using(crate::proofs::BackSound::back_keeps, crate::proofs::Powered::back_leaves))]
     pub fn evict_turn(&mut self) -> Back
         requires spare { 0 < spare_turns self.old }
-        ensures back { IsBack (flash_under self.old.hierarchy).on E.score Evict self.old result self.new }
+        ensures back { IsBack (flash_under self.old.hierarchy).on E.score Evict self.old result
+            self.new }
         ensures same { SameSession self.old self.new }
         ensures on { StaysOn (flash_under self.old.hierarchy) (flash_under self.new.hierarchy) }
     {
@@ -131,7 +133,8 @@ impl<F: Flash, T: Tune, E: Pick> Core<F, T, E> {
     #[tactic(auto, using(crate::proofs::BackSound::back_keeps, crate::proofs::Powered::back_leaves))]
     pub fn collect_turn(&mut self) -> Back
         requires spare { 0 < spare_turns self.old }
-        ensures back { IsBack (flash_under self.old.hierarchy).on E.score Collect self.old result self.new }
+        ensures back { IsBack (flash_under self.old.hierarchy).on E.score Collect self.old result
+            self.new }
         ensures same { SameSession self.old self.new }
         ensures on { StaysOn (flash_under self.old.hierarchy) (flash_under self.new.hierarchy) }
     {
@@ -143,7 +146,8 @@ impl<F: Flash, T: Tune, E: Pick> Core<F, T, E> {
     #[tactic(auto, using(crate::proofs::BackSound::back_keeps, crate::proofs::Powered::back_leaves))]
     pub fn drain_turn(&mut self) -> Back
         requires spare { 0 < spare_turns self.old }
-        ensures back { IsBack (flash_under self.old.hierarchy).on E.score Drain self.old result self.new }
+        ensures back { IsBack (flash_under self.old.hierarchy).on E.score Drain self.old result
+            self.new }
         ensures same { SameSession self.old self.new }
         ensures on { StaysOn (flash_under self.old.hierarchy) (flash_under self.new.hierarchy) }
     {
