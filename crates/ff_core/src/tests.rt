@@ -1,9 +1,12 @@
 // Calls and background turns over a simulated flash, by their answers and counts.
+ghost use Rattle.std.specs.Prelude.{IfOk};
+ghost use Rattle.ff_flash.specs.Plans.{IsPlan, planned_of};
+
 mod rows;
 mod rules;
 
 use super::*;
-use ff_base::{Caller, Geometry, PageNo};
+use ff_base::{Caller, Geometry, NoMemory, PageNo};
 use ff_evict::Picker;
 use ff_flash::{Plan, SimFlash};
 use ff_model::{Counts, Kind, Op, Piece, Reply};
@@ -15,25 +18,37 @@ use std::test::Fail;
 
 type TestCore = Core<SimFlash, ByHits, ByDirty>;
 
+// The plan of a flash of which the first operation fails, or none.
+fn plan_of(alloc: Global, fails: bool) -> Result<Plan, NoMemory>
+    ensures { IfOk result (λ plan. IsPlan (planned_of plan)) }
+{
+    if fails {
+        Ok(Plan {
+            fail: vec![in alloc; 1]?,
+            cuts: Vec::new(alloc),
+        })
+    } else {
+        Ok(Plan {
+            fail: Vec::new(alloc),
+            cuts: Vec::new(alloc),
+        })
+    }
+}
+
 fn core_of(alloc: Global, row: &Row) -> Result<TestCore, Fail> {
-    let plan = Plan {
-        fail: Vec::from_slice(alloc, row.fail)?,
-        cuts: Vec::new(alloc),
-    };
-    let flash = SimFlash::new(alloc, &row.geometry, plan)?;
+    let geometry = row.geometry;
+    if geometry.check().is_err() {
+        Err("out of bounds")?;
+    }
+    let plan = plan_of(alloc, row.fails)?;
+    let flash = SimFlash::new(alloc, &geometry, plan)?;
     let room = Room {
         calls: 32,
         turns: 256,
     };
     let tuner = Tuner::new(1, 4, ByHits);
-    match Core::fresh(
-        alloc,
-        flash,
-        row.geometry,
-        tuner,
-        Picker::new(ByDirty),
-        room,
-    ) {
+    let picker = Picker::new(ByDirty);
+    match Core::fresh(alloc, flash, geometry, tuner, picker, room) {
         Ok(core) => Ok(core),
         Err(_) => Err("no memory")?,
     }
@@ -42,13 +57,7 @@ fn core_of(alloc: Global, row: &Row) -> Result<TestCore, Fail> {
 // Whether a step is answered so.
 fn is_answered(core: &mut TestCore, step: &Step) -> bool {
     match step {
-        Step::Load(at, bytes) => {
-            let op = Op::Load {
-                at: *at,
-                len: bytes.len() as u32,
-            };
-            call(core, &op) == Some(Reply::Bytes(Piece::from_slice(bytes)))
-        }
+        Step::Load(at, bytes) => load(core, *at, bytes),
         Step::Store(at, bytes) => store(core, *at, bytes) == Some(Reply::Done),
         Step::Full(at, bytes) => store(core, *at, bytes) == Some(Reply::Full),
         Step::Fault(at, bytes) => store(core, *at, bytes) == Some(Reply::Fault),
@@ -64,7 +73,22 @@ fn is_answered(core: &mut TestCore, step: &Step) -> bool {
     }
 }
 
+// Whether a load gives these bytes.
+fn load(core: &mut TestCore, at: u32, bytes: &[u8]) -> bool {
+    if bytes.len() > 64 {
+        return false;
+    }
+    let op = Op::Load {
+        at,
+        len: bytes.len() as u32,
+    };
+    call(core, &op) == Some(Reply::Bytes(Piece::from_slice(bytes)))
+}
+
 fn store(core: &mut TestCore, at: u32, bytes: &[u8]) -> Option<Reply> {
+    if bytes.len() > 64 {
+        return None;
+    }
     let op = Op::Store {
         at,
         bytes: Piece::from_slice(bytes),
@@ -85,7 +109,7 @@ fn call(core: &mut TestCore, op: &Op) -> Option<Reply> {
 
 // Makes so many turns of a kind, and tells how many did something.
 fn turns(core: &mut TestCore, kind: Kind, count: u32) -> u32 {
-    let mut did = 0;
+    let mut did: u32 = 0;
     for _ in 0..count {
         if core.spare_turns() == 0 {
             return did;
@@ -97,7 +121,7 @@ fn turns(core: &mut TestCore, kind: Kind, count: u32) -> u32 {
             Kind::Drain => core.drain_turn(),
         };
         if let Back::Did(_) = answer {
-            did += 1;
+            did = did.saturating_add(1);
         }
     }
     did

@@ -39,7 +39,7 @@ record AddsTurns (tally : Tally) (count : ℕ) (after : Tally) : Type 0 where
   few : FewTurns after
   total : all_turns after ≡ all_turns tally + count
 
--- both parts of a test hold
+-- the second of two tests that both hold
 second_holds : (first second : Bool) → (first && second) ≡ true → second ≡ true
 second_holds true second both = both
 second_holds false second both = cc
@@ -47,10 +47,42 @@ second_holds false second both = cc
 -- turns that fit leave the turns of their kind few
 turns_fit : (tally : Tally) (kind : Kind) (count : ℕ) → turns_in tally kind + count ≤ most_turns → FewTurns tally
     → AddsTurns tally count (with_turns tally kind count)
-turns_fit tally Promote count fit few = record { few = record { few_promote = fit; few_evict = few.few_evict; few_collect = few.few_collect; few_drain = few.few_drain }; total = omega arith }
-turns_fit tally Evict count fit few = record { few = record { few_promote = few.few_promote; few_evict = fit; few_collect = few.few_collect; few_drain = few.few_drain }; total = omega arith }
-turns_fit tally Collect count fit few = record { few = record { few_promote = few.few_promote; few_evict = few.few_evict; few_collect = fit; few_drain = few.few_drain }; total = omega arith }
-turns_fit tally Drain count fit few = record { few = record { few_promote = few.few_promote; few_evict = few.few_evict; few_collect = few.few_collect; few_drain = fit }; total = omega arith }
+turns_fit tally Promote count fit few = record {
+  few = record {
+    few_promote = fit;
+    few_evict = few.few_evict;
+    few_collect = few.few_collect;
+    few_drain = few.few_drain;
+  };
+  total = omega arith;
+}
+turns_fit tally Evict count fit few = record {
+  few = record {
+    few_promote = few.few_promote;
+    few_evict = fit;
+    few_collect = few.few_collect;
+    few_drain = few.few_drain;
+  };
+  total = omega arith;
+}
+turns_fit tally Collect count fit few = record {
+  few = record {
+    few_promote = few.few_promote;
+    few_evict = few.few_evict;
+    few_collect = fit;
+    few_drain = few.few_drain;
+  };
+  total = omega arith;
+}
+turns_fit tally Drain count fit few = record {
+  few = record {
+    few_promote = few.few_promote;
+    few_evict = few.few_evict;
+    few_collect = few.few_collect;
+    few_drain = fit;
+  };
+  total = omega arith;
+}
 
 -- so does a row that fits
 form_fit : (limits : Limits) (tally : Tally) (row : Row) → form_fits limits tally row ≡ true → FewTurns tally
@@ -70,7 +102,13 @@ rows_fit limits tally (row ∷ later) before fit few is =
     rows_fit limits (with_row tally row) later (before + turns_in_row row) fit.1 adds.few (omega (arith, is, adds.total))
 
 -- a trace asks for few turns
-pub few_turns : (limits : Limits) (bytes : List ℕ) (rows : List Row) → IsTrace limits bytes rows → turns_asked rows ≤ 4 * most_turns
+pub few_turns : (limits : Limits) (bytes : List ℕ) (rows : List Row) → IsTrace limits bytes rows
+    → turns_asked rows ≤ 4 * most_turns
 few_turns limits bytes rows is_trace =
-    let few : FewTurns empty_tally = record { few_promote = omega arith; few_evict = omega arith; few_collect = omega arith; few_drain = omega arith } in
+    let few : FewTurns empty_tally = record {
+      few_promote = omega arith;
+      few_evict = omega arith;
+      few_collect = omega arith;
+      few_drain = omega arith;
+    } in
     rows_fit limits empty_tally rows 0 is_trace.are_rows.fit few refl

@@ -47,9 +47,11 @@ pub record PlansCuts (bytes : List ℕ) : Type 0 where
 abbrev pub IsSettingsCause : List ℕ → BadSettings → Type 0
 IsSettingsCause bytes bad_settings.NoMemory = ⊥
 IsSettingsCause bytes bad_settings.Text = IsAnswer bytes false (Err bad_settings.Text)
-IsSettingsCause bytes bad_settings.Key = IsAnswer bytes false (Err bad_settings.Key) ⊎ PlansCuts bytes
+IsSettingsCause bytes bad_settings.Key =
+    IsAnswer bytes false (Err bad_settings.Key) ⊎ PlansCuts bytes
 IsSettingsCause bytes (bad_settings.Kind name) = IsAnswer bytes false (Err (bad_settings.Kind name))
-IsSettingsCause bytes (bad_settings.Bound name) = IsAnswer bytes false (Err (bad_settings.Bound name))
+IsSettingsCause bytes (bad_settings.Bound name) =
+    IsAnswer bytes false (Err (bad_settings.Bound name))
 
 -- all records of the trace are rows, and that of this number is the first whose row isn't run
 pub record IsFirstOther (trace : List ℕ) (number : ℕ) : Type 0 where
@@ -65,8 +67,8 @@ pub record IsBadRow (number : ℕ) (settings trace : List ℕ) : Type 0 where
   pub good : SettingsAre settings view
   pub bad_row : IsCauseOf one_thread trace (bad.Row number) ⊎ IsFirstOther trace number
 
--- why an input is refused. Each cause says that those before it don't hold; want of memory has none, and no read failed
--- before it
+-- why an input is refused. Each cause says that those before it don't hold; want of memory has
+-- none, and no read failed before it
 abbrev pub IsInputCause : SourceChange → BadInput → Type 0
 IsInputCause source bad_input.NoMemory = HasNoFault source
 IsInputCause source bad_input.ReadFault = FailsToRead source

@@ -65,7 +65,8 @@ pub record ReadsWhole (source : SourceChange) (IsSuch : List ℕ → Type 0) : T
       (λ bytes. (source.after ≡ Some []) × (length bytes ≤ input_limit) × IsSuch bytes)
   pub faults : HasNoFault source
 
--- why the bytes of an input can't be had. Want of memory has no cause, and comes before the first read.
+-- why the bytes of an input can't be had. Want of memory has no cause, and comes before the first
+-- read
 abbrev pub IsReadCause : SourceChange → ReadStop → Type 0
 IsReadCause source read_stop.NoMemory = Untouched source
 IsReadCause source read_stop.Fault = FailsToRead source
@@ -75,7 +76,8 @@ IsReadCause source read_stop.TooLong = ReadsTooMuch source
 abbrev pub begins_line : List ℕ → ℕ → Bool
 begins_line bytes at = (at == 0) || (slice_index bytes (at - 1) == 10)
 
--- what stands behind a line that is exactly `---` and begins these bytes: one CR before the line's LF doesn't count
+-- what stands behind a line that is exactly `---` and begins these bytes: one CR before the line's
+-- LF doesn't count
 abbrev pub behind_dashes : List ℕ → Option (List ℕ)
 behind_dashes bytes =
     if bytes_eq (take 4 bytes) (codes "---\n") then Some (drop 4 bytes)

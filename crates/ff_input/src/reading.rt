@@ -33,7 +33,7 @@ pub enum BadInput {
     NoSeparator,
     /// The settings are refused.
     BadSettings(BadSettings),
-    /// The number of the trace's first record that isn't one of the forms that are run. The header is record 0.
+    /// The number of the trace's first record that isn't a row that is run. The header is record 0.
     BadRow(u32),
 }
 

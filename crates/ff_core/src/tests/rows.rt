@@ -16,7 +16,8 @@ pub enum Step {
 
 pub struct Row {
     pub geometry: Geometry,
-    pub fail: &'static [u64],
+    /// The first operation of the flash fails.
+    pub fails: bool,
     pub steps: &'static [Step],
     pub counts: Counts,
 }
@@ -59,13 +60,13 @@ const TWENTY_TWOS: [u8; 64] = [0x22; 64];
 pub const ROWS: [Row; 10] = [
     Row {
         geometry: DEFAULT,
-        fail: &[],
+        fails: false,
         steps: &[Step::Store(0, &[0xaa]), Step::Load(0, &[0xaa])],
         counts: Counts { device: 2, ..NONE },
     },
     Row {
         geometry: DEFAULT,
-        fail: &[],
+        fails: false,
         steps: &[
             READ_PAGE_0,
             READ_PAGE_0,
@@ -87,7 +88,7 @@ pub const ROWS: [Row; 10] = [
     },
     Row {
         geometry: DEFAULT,
-        fail: &[],
+        fails: false,
         steps: &[
             Step::Store(576, &TWENTY_TWOS),
             READ_PAGE_0,
@@ -110,7 +111,7 @@ pub const ROWS: [Row; 10] = [
             frames: 1,
             ..DEFAULT
         },
-        fail: &[],
+        fails: false,
         steps: &[
             READ_PAGE_0,
             READ_PAGE_0,
@@ -134,7 +135,7 @@ pub const ROWS: [Row; 10] = [
     },
     Row {
         geometry: DEFAULT,
-        fail: &[],
+        fails: false,
         steps: &[
             READ_PAGE_0,
             READ_PAGE_0,
@@ -162,7 +163,7 @@ pub const ROWS: [Row; 10] = [
             per_block: 2,
             ..DEFAULT
         },
-        fail: &[],
+        fails: false,
         steps: &[
             Step::Store(0, &[0xa0]),
             Step::Store(4096, &[0xa1]),
@@ -179,7 +180,7 @@ pub const ROWS: [Row; 10] = [
             ways: 1,
             ..DEFAULT
         },
-        fail: &[],
+        fails: false,
         steps: &[
             Step::Store(0, &[0xa0]),
             Step::Store(4096, &[0xa1]),
@@ -208,7 +209,7 @@ pub const ROWS: [Row; 10] = [
             low: 8,
             ..DEFAULT
         },
-        fail: &[],
+        fails: false,
         steps: &[
             Step::Store(0, &[0xa0]),
             Step::Store(4096, &[0xa1]),
@@ -233,7 +234,7 @@ pub const ROWS: [Row; 10] = [
     },
     Row {
         geometry: Geometry { ways: 1, ..DEFAULT },
-        fail: &[1],
+        fails: true,
         steps: &[
             Step::Store(0, &[0xaa]),
             Step::Fault(4096, &[0xbb]),
@@ -249,7 +250,7 @@ pub const ROWS: [Row; 10] = [
     },
     Row {
         geometry: DEFAULT,
-        fail: &[],
+        fails: false,
         steps: &[
             READ_PAGE_0,
             READ_PAGE_0,
