@@ -1,11 +1,11 @@
 -- What depends on the slots' pages and pins alone.
-use Rattle.std.proofs.Common.{◌≡◌, ◌<◌, inl, inr, ℕ, zero, suc, ◌+◌, ◌*◌, ◌%◌, Bool, true, false, not, List, refl, sym, ap, ◌∙◌, arith, Option, Some, None, get_or-set_same, get_or-set_other}
+use Rattle.std.proofs.Common.{◌≡◌, ◌<◌, inl, inr, ℕ, zero, suc, ◌+◌, ◌*◌, ◌%◌, Bool, true, false, not, List, refl, ap, ◌∙◌, Option, Some, None, get_or-set_same, get_or-set_other}
 use Rattle.std.specs.Option.{is_none}
 use Rattle.std.proofs.Math.Seq.{map-set_same}
 use Rattle.std.proofs.lemmas.Bool.{cases_eq}
 use Rattle.std.specs.Prelude.{option_map}
 use Rattle.ff_base.specs.declared.numbers.PageNo.{PageNo}
-use Rattle.ff_cache.specs.Cache.{all_below, first_of, is_full_set, values_of, way_at, CacheView, IsCacheSound}
+use Rattle.ff_cache.specs.Cache.{all_below, is_full_set, values_of, way_at, CacheView}
 use Rattle.ff_cache.specs.Slots.{empty_slot, is_empty, cache_slot_at}
 use Rattle.ff_cache.specs.declared.slot.Slot.{Slot}
 use Rattle.ff_cache.proofs.Full.{all_below_at}
@@ -93,9 +93,7 @@ page_some : (found : Option PageNo) → is_none found ≡ false → found ≡ No
 page_some None some none = cc
 page_some (Some page) some none = cc
 
-pub full_first : (cache : CacheView) (page first : ℕ) → IsCacheSound cache → is_full_set cache page ≡ true → first ≡ first_of cache page
-    → (cache_slot_at cache.slots first).page ≡ None → ⊥
-full_first cache page first sound full is none =
-    let place : first_of cache page + 0 ≡ first = omega arith in
-    page_some (cache_slot_at cache.slots first).page
-    (ap (λ (k : ℕ). is_empty (cache_slot_at cache.slots k)) (sym place) ∙ full_way cache page 0 full sound.sizes.some_ways) none
+pub full_page : (cache : CacheView) (page way : ℕ) → is_full_set cache page ≡ true → way < cache.ways
+    → (way_at cache page way).page ≡ None → ⊥
+full_page cache page way full within none =
+    page_some (way_at cache page way).page (full_way cache page way full within) none

@@ -28,3 +28,4 @@ pub mod SeenSteps
 pub mod StoreCalls
 pub mod Promising
 pub mod Shapes
+pub mod Rooms

@@ -5,3 +5,6 @@ mod device;
 mod store_steps;
 
 pub use device::{Device, DeviceOwn, DeviceParts, SlotPages};
+
+#[cfg(test)]
+mod tests;

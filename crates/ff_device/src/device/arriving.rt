@@ -41,7 +41,8 @@ impl<F: Flash> Device<F> {
             ≡ laid page line (take count self.old.window.posts)
             (line_below (parts_of self.old) page line) }
         ensures posts { self.new.window.posts ≡ [] }
-        ensures resident { SameSet (is_resident (parts_of self.old)) (is_resident (parts_of self.new)) }
+        ensures resident { SameSet (is_resident (parts_of self.old))
+            (is_resident (parts_of self.new)) }
         ensures own { own_of self.new ≡ own_of self.old }
     {
         let some = count.min(self.window.len());

@@ -88,14 +88,14 @@ impl<F: Flash> Device<F> {
         false
     }
 
-    // The page in the least way of a full set.
-    pub(super) fn first_page(&self, page: PageNo) -> PageNo
-        requires { is_full_set self.now.cache page.0 ≡ true }
-        ensures { (way_at self.now.cache page.0 0).page ≡ Some result }
+    // The page in a way of a full set.
+    #[tactic(auto, using(crate::proofs::Frames::full_page))]
+    pub(super) fn page_of_way(&self, page: PageNo, way: u32) -> PageNo
+        requires full { is_full_set self.now.cache page.0 ≡ true }
+        requires way { way < self.now.cache.ways }
+        ensures { (way_at self.now.cache page.0 way).page ≡ Some result }
     {
-        self.cache.known();
-        let first = self.cache.first_slot(page);
-        match self.cache.page(first) {
+        match self.cache.page(self.cache.first_slot(page) + way) {
             Some(named) => named,
             None => unreachable!(),
         }

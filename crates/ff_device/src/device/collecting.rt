@@ -69,7 +69,8 @@ impl<F: Flash> Device<F> {
         ensures turn { IsCollectTurn self.old result self.new }
         ensures kept { KeepsLines (lines_in self.old) (lines_in self.new) }
         ensures calls { CallsOnce self.old.store (stop_of_work result) self.new.store }
-        ensures resident { SameSet (is_resident (parts_of self.old)) (is_resident (parts_of self.new)) }
+        ensures resident { SameSet (is_resident (parts_of self.old))
+            (is_resident (parts_of self.new)) }
         ensures window { self.new.window ≡ self.old.window }
         ensures shape { SameShape (parts_of self.old) (parts_of self.new) }
     {

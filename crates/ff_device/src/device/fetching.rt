@@ -23,7 +23,8 @@ impl<F: Flash> Device<F> {
         requires absent { held self.old.cache.slots page.0 ≡ None }
         requires place { IsInSet self.old.cache page.0 slot }
         requires clean { (cache_slot_at self.old.cache.slots slot).dirty ≡ false }
-        requires goes { may_go self.old.window.posts (cache_slot_at self.old.cache.slots slot) ≡ true }
+        requires goes { may_go self.old.window.posts (cache_slot_at self.old.cache.slots slot)
+            ≡ true }
         ensures row { FetchRow page.0 slot result (parts_of self.old) (parts_of self.new) }
         ensures calls { CallsOnce self.old.store (stop_of_work result) self.new.store }
         ensures busy { IsIdle result → ⊥ }

@@ -58,7 +58,8 @@ impl<F: Flash> Device<F> {
             ≡ drop (if length self.old.window.posts == self.old.window.room then 1 else 0)
             self.old.window.posts ++ post ∷ [] }
         ensures own { own_of self.new ≡ own_of self.old }
-        ensures hit { HitIf (is_some post.position) post.page.0 self.old.cache self.new.cache.values }
+        ensures hit { HitIf (is_some post.position) post.page.0 self.old.cache
+            self.new.cache.values }
     {
         self.make_room();
         self.touch(post.page, post.position.is_some());

@@ -29,11 +29,12 @@ impl<F: Flash> Device<F> {
         ensures idle { IsIdle result → self.new ≡ self.old }
         ensures calls { CallsOnce self.old.store (stop_of_work result) self.new.store }
     {
+        self.cache.known();
         if self.has_unpinned(page) {
             self.drain_window();
             Work::Stepped
         } else {
-            Work::Pinned(self.first_page(page))
+            Work::Pinned(self.page_of_way(page, 0))
         }
     }
 
@@ -44,7 +45,8 @@ impl<F: Flash> Device<F> {
         requires idle { (seen_of self.old.store).pending ≡ None }
         requires absent { held self.old.cache.slots page.0 ≡ None }
         requires place { IsInSet self.old.cache page.0 slot }
-        requires goes { may_go self.old.window.posts (cache_slot_at self.old.cache.slots slot) ≡ true }
+        requires goes { may_go self.old.window.posts (cache_slot_at self.old.cache.slots slot)
+            ≡ true }
         ensures flushes { (cache_slot_at self.old.cache.slots slot).dirty ≡ true
             → FlushRow slot result (parts_of self.old) (parts_of self.new) }
         ensures fetches { (cache_slot_at self.old.cache.slots slot).dirty ≡ false

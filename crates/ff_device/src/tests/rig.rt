@@ -1,0 +1,191 @@
+// A device with room for all its pages, whose calls see to it that they may be made.
+ghost use Rattle.std.specs.Prelude.{◌≡◌, ◌≤◌, IfOk, IfSome};
+ghost use Rattle.ff_base.specs.Geometry.{IsWithinLimits, capacity_of};
+ghost use Rattle.ff_flash.specs.Plans.{IsPlan, planned_of};
+ghost use Rattle.ff_device.specs.Device.{lines_in};
+ghost use Rattle.ff_lines.specs.DeviceState.{HasRoom};
+
+use crate::Device;
+use ff_base::{Geometry, NoMemory, PageNo};
+use ff_cache::Cache;
+use ff_flash::{CutAt, Flash, Plan, SimFlash};
+use ff_lines::{LineDevice, Work};
+use ff_model::Piece;
+use ff_store::PageStore;
+use ff_window::Window;
+use std::alloc::Global;
+
+#[derive(Drop)]
+pub struct Rig {
+    device: Device<SimFlash>,
+    ghost room: { (lines_in device).pages ≤ (lines_in device).room },
+}
+
+/// Which operation of the flash fails or is cut, counted from 0.
+#[derive(Clone, Copy, Debug)]
+pub enum Fault {
+    Fail(u32),
+    /// With the mask of the cut.
+    Cut(u32, u32),
+}
+
+/// No operation of a test comes so late.
+pub const NO_FAULT: Fault = Fault::Fail(u32::MAX);
+
+fn plan_of(alloc: Global, fault: Fault) -> Result<Plan, NoMemory>
+    ensures { IfOk result (λ plan. IsPlan (planned_of plan)) }
+{
+    match fault {
+        Fault::Fail(made) => Ok(Plan {
+            fail: vec![in alloc; u64::from(made) + 1]?,
+            cuts: Vec::new(alloc),
+        }),
+        Fault::Cut(made, mask) => Ok(Plan {
+            fail: Vec::new(alloc),
+            cuts: vec![in alloc;
+                CutAt {
+                    at: u64::from(made) + 1,
+                    mask,
+                    arrive: 0,
+                },
+            ]?,
+        }),
+    }
+}
+
+// A device of which nothing is cached or stored.
+#[tactic(auto, using(crate::proofs::Rooms::fresh_begins, crate::proofs::Rooms::fresh_room))]
+fn fresh_device(alloc: Global, geometry: &Geometry, plan: Plan) -> Option<Device<SimFlash>>
+    requires limits { IsWithinLimits geometry.now }
+    requires room { geometry.now.pages ≤ capacity_of geometry.now }
+    requires plan { IsPlan (planned_of plan) }
+    ensures { IfSome result (λ device. (lines_in device).pages ≤ (lines_in device).room) }
+{
+    let Ok(flash) = SimFlash::new(alloc, geometry, plan) else {
+        return None;
+    };
+    let Ok(store) = PageStore::new(alloc, flash, geometry) else {
+        return None;
+    };
+    let Ok(cache) = Cache::new(alloc, geometry) else {
+        return None;
+    };
+    let Ok(window) = Window::new(alloc, geometry.window) else {
+        return None;
+    };
+    match Device::new(alloc, store, cache, window) {
+        Ok(device) => Some(device),
+        Err(_) => None,
+    }
+}
+
+impl Rig {
+    pub fn new(alloc: Global, geometry: &Geometry, fault: Fault) -> Option<Rig> {
+        if geometry.check().is_err() || geometry.capacity() < geometry.pages {
+            return None;
+        }
+        let Ok(plan) = plan_of(alloc, fault) else {
+            return None;
+        };
+        match fresh_device(alloc, geometry, plan) {
+            Some(device) => Some(Rig { device }),
+            None => None,
+        }
+    }
+
+    pub fn device(&self) -> &Device<SimFlash> {
+        &self.device
+    }
+
+    pub fn is_resident(&self, page: u32) -> bool
+        ensures { result ≡ (lines_in self.now.device).resident page }
+    {
+        self.device.resident(PageNo(page))
+    }
+
+    pub fn work(&mut self, page: u32) -> Option<Work> {
+        let store = self.device.store();
+        if page >= store.pages() || store.flash().operation_count() >= 1 << 63 {
+            return None;
+        }
+        Some(self.device.work(PageNo(page)))
+    }
+
+    /// Makes steps of work until one isn't `Stepped`.
+    pub fn serve(&mut self, page: u32) -> Option<Work> {
+        for _ in 0..64 {
+            match self.work(page)? {
+                Work::Stepped => {}
+                other => return Some(other),
+            }
+        }
+        None
+    }
+
+    pub fn read(&mut self, page: u32, hit: bool) -> Option<[u8; 64]> {
+        if !self.is_resident(page) {
+            return None;
+        }
+        Some(self.device.read_line(PageNo(page), 0, hit))
+    }
+
+    #[tactic(auto, using(crate::proofs::Rooms::room_for))]
+    fn has_room(&self, page: u32)
+        ensures { HasRoom (lines_in self.now.device) page }
+    {
+        let _ = &self.device;
+    }
+
+    /// Posts a piece to line 0 of a page. The answer is how many posts wait.
+    pub fn post(
+        &mut self,
+        page: u32,
+        from: u8,
+        bytes: &[u8],
+        position: Option<u32>,
+    ) -> Option<u32> {
+        if bytes.len() > 64 || usize::from(from) + bytes.len() > 64 {
+            return None;
+        }
+        if !self.is_resident(page) {
+            return None;
+        }
+        self.has_room(page);
+        self.device
+            .post(PageNo(page), 0, from, &Piece::from_slice(bytes), position);
+        Some(self.device.waiting())
+    }
+
+    pub fn pin(&mut self, page: u32, on: bool) {
+        if self.is_resident(page) {
+            self.device.pin(PageNo(page), on);
+        }
+    }
+
+    pub fn drain_one(&mut self) -> bool {
+        self.device.drain_one()
+    }
+
+    pub fn drain_all(&mut self) {
+        self.device.drain_all();
+    }
+
+    pub fn arrive(&mut self, count: u32) -> Option<u32> {
+        self.device.arrive(count)
+    }
+
+    pub fn collect_work(&mut self) -> Option<Work> {
+        if self.device.store().flash().operation_count() >= 1 << 63 {
+            return None;
+        }
+        Some(self.device.collect_work())
+    }
+
+    pub fn power_off(&mut self) {
+        self.device.power_off();
+    }
+
+    pub fn into_device(self) -> Device<SimFlash> {
+        self.device
+    }
+}
