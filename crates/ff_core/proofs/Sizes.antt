@@ -10,7 +10,8 @@ use Rattle.ff_memory.specs.declared.access.Side.{Side}
 use Rattle.ff_memory.specs.declared.access.Side.TheVariants.{Device, Host, Neither}
 use Rattle.ff_model.specs.declared.op.Op.{Op}
 use Rattle.ff_plb.specs.Plb.{slot_at}
-use Rattle.ff_policy.specs.Policy.{PolicyView, StepsWhere, counted, counter_of, raised_count}
+use Rattle.ff_policy.specs.Counters.{raised_count}
+use Rattle.ff_policy.specs.Policy.{PolicyView, StepsWhere, counted, counter_of}
 use Rattle.ff_policy.specs.declared.policy.TheConstants.{STEP_ACCESSES}
 use Rattle.ff_device.specs.Device.{lines_in}
 use Rattle.ff_core.specs.Hierarchy.{HierarchyView, lines_under}

@@ -165,5 +165,3 @@ pub turn-sound : {T E : Type 0} (answers : T → ℕ → ℕ → ℕ → ℕ →
     → IsTurn (flash_under old.hierarchy).on answers old caller number op turn new → IsCoreSound new
 turn-sound answers old caller number op turn new sound memory device is =
     turn-sound-by (flash_under old.hierarchy).on answers old caller number op turn new sound memory device refl is
-
-pub ruleset turn_keeps = turn-sound

@@ -92,7 +92,6 @@ impl<F: Flash, T: Tune, E: Pick> Core<F, T, E> {
     }
 
     /// One event of a call, with at most one flash operation. It takes no memory. With the power off it does nothing.
-    #[tactic(auto, using(crate::proofs::TurnSound::turn_keeps))]
     pub fn turn(&mut self, caller: Caller, number: u32, op: &Op) -> Turn
         requires spare { 0 < spare_calls self.old }
         ensures { IsTurn (flash_under self.old.hierarchy).on T.answers self.old caller number op.now
