@@ -1,5 +1,6 @@
 // Calls and background turns over a simulated flash, by their answers and counts.
 ghost use Rattle.std.specs.Prelude.{IfOk};
+ghost use Rattle.ff_base.specs.Geometry.{IsWithinLimits};
 ghost use Rattle.ff_flash.specs.Plans.{IsPlan, planned_of};
 
 mod rows;
@@ -35,11 +36,18 @@ fn plan_of(alloc: Global, fails: bool) -> Result<Plan, NoMemory>
     }
 }
 
-fn core_of(alloc: Global, row: &Row) -> Result<TestCore, Fail> {
-    let geometry = row.geometry;
-    if geometry.check().is_err() {
-        Err("out of bounds")?;
+// A geometry that is within its bounds.
+fn checked(geometry: Geometry) -> Result<Geometry, Fail>
+    ensures { IfOk result (λ checked. IsWithinLimits checked) }
+{
+    match geometry.check() {
+        Ok(()) => Ok(geometry),
+        Err(_) => Err("out of bounds")?,
     }
+}
+
+fn core_of(alloc: Global, row: &Row) -> Result<TestCore, Fail> {
+    let geometry = checked(row.geometry)?;
     let plan = plan_of(alloc, row.fails)?;
     let flash = SimFlash::new(alloc, &geometry, plan)?;
     let room = Room {
