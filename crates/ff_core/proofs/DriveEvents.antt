@@ -36,7 +36,7 @@ use Rattle.ff_core.proofs.MissFalls.{LooksSame, miss_falls}
 use Rattle.ff_core.proofs.MissRuns.{RunsStep, miss_runs, store_same}
 use Rattle.ff_core.proofs.WorkFalls.{IsStepGiven}
 
-next_few : (event : ℕ) → next_number event ≤ event + 1
+pub next_few : (event : ℕ) → next_number event ≤ event + 1
 next_few event = min-le_left (event + 1) last_event
 
 -- the power was off

@@ -60,7 +60,7 @@ store_more a b c first second = record {
   opened = second.opened ∙ first.opened;
 }
 
-session_more : {T E : Type 0} (a b c : CoreView T E) → SameSession a b → SameSession b c → SameSession a c
+pub session_more : {T E : Type 0} (a b c : CoreView T E) → SameSession a b → SameSession b c → SameSession a c
 session_more a b c first second = record {
   opening = second.opening ∙ first.opening;
   geometry = second.geometry ∙ first.geometry;

@@ -1,8 +1,12 @@
 -- What the record of a session keeps.
-use Rattle.std.proofs.Common.{◌≡◌, ◌≤◌, subst, refl, arith}
+use Rattle.std.proofs.Common.{◌≡◌, ◌≤◌, ◌*◌, ℕ, subst, refl, sym, ap, ◌∙◌, arith}
 use Rattle.ff_model.specs.Legal.{IsLegal, Opening, next_event}
+use Rattle.ff_policy.specs.Policy.{IsPolicySound}
+use Rattle.ff_store.specs.PageStore.{IsStoreSound}
+use Rattle.ff_core.specs.Account.{IsAccountOf, start_of}
 use Rattle.ff_core.specs.Core.{CoreView}
 use Rattle.ff_core.specs.CoreSound.{IsCoreSound}
+use Rattle.ff_core.specs.Hierarchy.{flash_under}
 use Rattle.ff_core.specs.Record.{IsRecordSound, opening_from, record_of}
 
 opening_is : {T E : Type 0} → (core : CoreView T E) → IsCoreSound core
@@ -22,4 +26,38 @@ record_sound core sound =
       served = sound.counted.served;
       promotions = sound.counted.promotions;
       faults = omega arith;
+    }
+
+-- the promotions were paid for by the accesses of the device
+paid_for : (sum floor promotions accesses promoted device : ℕ) → sum + floor * promotions ≤ accesses → promotions ≡ promoted
+    → accesses ≡ device → promoted * floor ≤ device
+paid_for sum floor promotions accesses promoted device paid is counted =
+    rw (← is, ← counted) (let commuted = mul_comm promotions floor in omega arith)
+
+pub account_of : {T E : Type 0} → (core : CoreView T E) → IsCoreSound core → IsStoreSound core.hierarchy.device.store
+    → IsPolicySound core.hierarchy.policy
+    → IsAccountOf core.geometry core.hierarchy.policy.tuner.floor (start_of core) (record_of core) (flash_under core.hierarchy)
+account_of core sound store policy =
+    let is = opening_is core sound in
+    let counted = sound.counted in
+    let kinds = counted.kinds in
+    let faults = counted.faults in
+    record {
+      geometry_is = refl;
+      from_event = refl;
+      legal = subst (λ (o : Opening). IsLegal o core.history.entries) is sound.told.legal;
+      events = subst (λ (o : Opening). next_event o core.history.entries ≤ core.events) is sound.timed.next;
+      not_past = sound.timed.not_past;
+      served = counted.served;
+      promotions = counted.promotions;
+      paid = paid_for _ _ _ _ _ _ policy.paid counted.paid counted.accesses;
+      operations =
+          let all = store.counted in
+          let reads = kinds.reads in
+          let programs = kinds.programs in
+          let seals = kinds.seals in
+          let erases = kinds.erases in
+          omega arith;
+      faults = omega arith;
+      told = λ tells. let all = counted.planned tells in omega arith;
     }

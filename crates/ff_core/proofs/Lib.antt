@@ -23,6 +23,7 @@ pub mod MissRuns
 pub mod MissSound
 pub mod MissedCalls
 pub mod Powered
+pub mod Promotable
 pub mod Recounting
 pub mod RestFalls
 pub mod Running

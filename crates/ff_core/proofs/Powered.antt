@@ -1,5 +1,5 @@
--- What an event leaves of a session, and that the power stays on where no cut is planned.
-use Rattle.std.proofs.Common.{◌≡◌, ◌==◌, ℕ, Bool, true, false, List, [], Option, Some, None, refl, sym, ap, ◌∙◌, subst}
+-- What a background turn leaves of a session, and that the power stays on where no cut is planned.
+use Rattle.std.proofs.Common.{◌≡◌, ◌==◌, ◌≤◌, ◌+◌, ℕ, Bool, true, false, List, [], Option, Some, None, refl, sym, ap, ◌∙◌, subst, arith}
 use Rattle.std.specs.Prelude.{if◌then◌else◌}
 use Rattle.ff_base.specs.Count.{last_event}
 use Rattle.ff_base.specs.declared.numbers.Caller.{Caller}
@@ -10,16 +10,16 @@ use Rattle.ff_flash.specs.declared.flash.FlashStop.{FlashStop}
 use Rattle.ff_flash.specs.declared.flash.FlashStop.TheVariants.{Off as OffStop}
 use Rattle.ff_flash.specs.declared.injected.Injected.TheVariants.{Failure}
 use Rattle.ff_flash.specs.declared.plan.CutAt.{CutAt}
-use Rattle.ff_gc.specs.Steps.{Takes, made, rested as rested_world}
+use Rattle.ff_gc.specs.Steps.{Takes, made as made_world, rested as rested_world}
 use Rattle.ff_model.specs.declared.counts.Kind.{Kind}
 use Rattle.ff_model.specs.declared.op.Op.{Op}
 use Rattle.ff_model.specs.declared.op.Reply.{Reply}
 use Rattle.ff_store.specs.Calls.{SameStore}
 use Rattle.ff_store.specs.PageStore.{PageStoreView}
 use Rattle.ff_device.specs.StoreSteps.{CallsOnce}
-use Rattle.ff_core.specs.Backs.{IsBack, IsBackAt, IsBackBy, core_after, rested}
+use Rattle.ff_core.specs.BackEvents.{IsBackEvent, IsLogged, cut, made}
+use Rattle.ff_core.specs.Backs.{IsBack, IsBackAt, IsBackBy, back_of, core_after, rested}
 use Rattle.ff_core.specs.Core.{CoreView}
-use Rattle.ff_core.specs.Drives.{SameSession}
 use Rattle.ff_core.specs.Hierarchy.{HierarchyView, flash_under}
 use Rattle.ff_core.specs.Performs.{IsAdvanced, IsWorkedFor, Performs, steps, yields}
 use Rattle.ff_core.specs.Turns.{IsAttempt, IsTurn, IsTurnBy, misses, refusal, serves}
@@ -29,9 +29,11 @@ use Rattle.ff_core.specs.declared.action.Action.TheVariants.{Advance, TurnBack, 
 use Rattle.ff_core.specs.declared.action.Progress.{Progress}
 use Rattle.ff_core.specs.declared.action.Progress.TheVariants.{Did, Failed, Off}
 use Rattle.ff_core.specs.declared.log.Back.{Back}
-use Rattle.ff_core.specs.declared.log.Back.TheVariants.{Idle, Spent}
+use Rattle.ff_core.specs.declared.log.Back.TheVariants.{Idle, Spent, Off as BackOff}
 use Rattle.ff_core.specs.declared.turn.Turn.{Turn}
+use Rattle.ff_core.proofs.DriveEvents.{next_few}
 use Rattle.ff_core.proofs.MissRuns.{store_same}
+use Rattle.ff_core.proofs.Running.{Runs, performs-runs}
 
 -- the power stayed on from one flash to the next, and from that to a third
 pub stays_more : (a b c : FlashState) → b.plan ≡ a.plan → StaysOn a b → StaysOn b c → StaysOn a c
@@ -60,9 +62,16 @@ operated_by false old stop new after uncut on operates =
 
 taken_on : (old new : PageStoreView) (stop : Option FlashStop) → Takes old.world stop new.world
     → StaysOn old.world.flash new.world.flash
-taken_on old new stop (made kind makes) uncut on =
+taken_on old new stop (made_world kind makes) uncut on =
     operated_by new.world.flash.on old.world.flash stop new.world.flash refl uncut on makes.flash
 taken_on old new stop (rested_world flash counts none) uncut on = ap (λ (f : FlashState). f.on) flash ∙ on
+
+-- a call of the store with the power on undoes no operation
+taken_rise : (old new : PageStoreView) (stop : Option FlashStop) → old.world.flash.on ≡ true → Takes old.world stop new.world
+    → old.world.flash.operations ≤ new.world.flash.operations
+taken_rise old new stop on (made_world kind makes) = let counted = makes.flash.power.counted on in omega arith
+taken_rise old new stop on (rested_world flash counts none) =
+    let same = ap (λ (f : FlashState). f.operations) flash in omega arith
 
 -- what a performed action leaves of a hierarchy
 record Leaves {T E : Type 0} (h h' : HierarchyView T E) : Type 0 where
@@ -70,6 +79,7 @@ record Leaves {T E : Type 0} (h h' : HierarchyView T E) : Type 0 where
   picker : h'.evictor.picker ≡ h.evictor.picker
   store : SameStore h.device.store h'.device.store
   on : StaysOn (flash_under h) (flash_under h')
+  no_fall : (flash_under h).operations ≤ (flash_under h').operations
 
 -- the store was let alone
 left_still : {T E : Type 0} (h h' : HierarchyView T E) → h'.device.store ≡ h.device.store
@@ -79,6 +89,7 @@ left_still h h' store floor picker = record {
   picker = picker;
   store = rw store (store_same h.device.store);
   on = λ uncut on. ap (λ (s : PageStoreView). s.world.flash.on) store ∙ on;
+  no_fall = let same = ap (λ (s : PageStoreView). s.world.flash.operations) store in omega arith;
 }
 
 -- the store was called
@@ -91,6 +102,7 @@ left_called {T = T} {E = E} h stop h' on calls rest =
       picker = ap (λ (g : HierarchyView T E). g.evictor.picker) rest;
       store = call.same;
       on = taken_on h.device.store h'.device.store stop call.takes;
+      no_fall = taken_rise h.device.store h'.device.store stop on call.takes;
     }
 
 left_advanced : {T E : Type 0} (slot : ℕ) (h : HierarchyView T E) (progress : Progress) (h' : HierarchyView T E)
@@ -125,74 +137,101 @@ performs_leaves {T = T} {E = E} Drain h progress h' on is =
     left_still h h' is.store (ap (λ (g : HierarchyView T E). g.policy.tuner) is.rest)
     (ap (λ (g : HierarchyView T E). g.evictor.picker) is.rest)
 
--- what a background turn leaves: the session is the same, and the power stays on
-record LeavesSession {T E : Type 0} (old new : CoreView T E) : Type 0 where
-  same : SameSession old new
+-- what a background turn leaves, and that the power stays on
+record LeavesSession {T E : Type 0} (old : CoreView T E) (kind : Kind) (back : Back) (new : CoreView T E) : Type 0 where
+  event : IsBackEvent old kind back new
   on : StaysOn (flash_under old.hierarchy) (flash_under new.hierarchy)
 
 -- no part but the log and the counts changed
-left_by : {T E : Type 0} (old new : CoreView T E) → new ≡ record old {
+left_by : {T E : Type 0} (old : CoreView T E) (kind : Kind) (back : Back) (new : CoreView T E) → new ≡ record old {
   events = new.events;
   log = record old.log { turns = new.log.turns };
   tally = new.tally;
   hierarchy = new.hierarchy;
-} → Leaves old.hierarchy new.hierarchy → LeavesSession old new
-left_by {T = T} {E = E} old new is leaves = record {
-  same = record {
-    opening = ap (λ (c : CoreView T E). c.opening) is;
-    geometry = ap (λ (c : CoreView T E). c.geometry) is;
-    from_counts = ap (λ (c : CoreView T E). c.from_counts) is;
-    room = ap (λ (c : CoreView T E). c.history.room) is;
-    turns_room = ap (λ (c : CoreView T E). c.log.room) is;
-    floor = leaves.floor;
-    picker = leaves.picker;
-    store = leaves.store;
+} → Leaves old.hierarchy new.hierarchy → IsLogged old kind back new → new.events ≤ old.events + 1
+    → (flash_under new.hierarchy).operations ≤ (flash_under old.hierarchy).operations + 1 → LeavesSession old kind back new
+left_by {T = T} {E = E} old kind back new is leaves logged events one_more = record {
+  event = record {
+    logged = logged;
+    history = ap (λ (c : CoreView T E). c.history) is;
+    same = record {
+      opening = ap (λ (c : CoreView T E). c.opening) is;
+      geometry = ap (λ (c : CoreView T E). c.geometry) is;
+      from_counts = ap (λ (c : CoreView T E). c.from_counts) is;
+      room = ap (λ (c : CoreView T E). c.history.room) is;
+      turns_room = ap (λ (c : CoreView T E). c.log.room) is;
+      floor = leaves.floor;
+      picker = leaves.picker;
+      store = leaves.store;
+    };
+    events = events;
+    no_fall = leaves.no_fall;
+    one_more = one_more;
   };
   on = leaves.on;
 }
 
 -- the hierarchy was let alone
-rested_leaves : {T E : Type 0} (old : CoreView T E) (kind : Kind) (back : Back) → LeavesSession old (rested old kind back)
+rested_leaves : {T E : Type 0} (old : CoreView T E) (kind : Kind) (back : Back) → LeavesSession old kind back (rested old kind back)
 rested_leaves old kind back =
-    left_by old (rested old kind back) refl (left_still old.hierarchy old.hierarchy refl refl refl)
+    left_by old kind back (rested old kind back) refl (left_still old.hierarchy old.hierarchy refl refl refl)
+    (made refl) (omega arith) (omega arith)
+
+off_back : (action : Action) → back_of action Off ≡ BackOff
+off_back (Advance slot) = refl
+off_back (TurnBack slot) = refl
+off_back (Work page) = refl
+off_back (Promote page) = refl
+off_back (Retreat page) = refl
+off_back (Evict frame) = refl
+off_back Collect = refl
+off_back Drain = refl
 
 acted_leaves : {T E : Type 0} (progress : Progress) (action : Action) (kind : Kind) (old : CoreView T E) (h : HierarchyView T E)
-    → Leaves old.hierarchy h → LeavesSession old (core_after action progress kind old h)
-acted_leaves (Did what) action kind old h leaves = left_by old (core_after action (Did what) kind old h) refl leaves
-acted_leaves Failed action kind old h leaves = left_by old (core_after action Failed kind old h) refl leaves
-acted_leaves Off action kind old h leaves = left_by old (core_after action Off kind old h) refl leaves
+    → Leaves old.hierarchy h → Runs progress old.hierarchy h
+    → LeavesSession old kind (back_of action progress) (core_after action progress kind old h)
+acted_leaves (Did what) action kind old h leaves runs =
+    left_by old kind (back_of action (Did what)) (core_after action (Did what) kind old h) refl leaves (made refl)
+    (next_few old.events) runs.one_more
+acted_leaves Failed action kind old h leaves runs =
+    left_by old kind (back_of action Failed) (core_after action Failed kind old h) refl leaves (made refl)
+    (next_few old.events) runs.one_more
+acted_leaves Off action kind old h leaves runs =
+    left_by old kind (back_of action Off) (core_after action Off kind old h) refl leaves (cut (off_back action) refl runs.stops.0)
+    (omega arith) runs.one_more
 
 chosen_leaves : {T E : Type 0} (action : Option Action) (kind : Kind) (old : CoreView T E) (back : Back) (new : CoreView T E)
-    → (flash_under old.hierarchy).on ≡ true → IsBackBy action kind old back new → LeavesSession old new
-chosen_leaves {T = T} {E = E} None kind old back new on is =
-    subst (λ (c : CoreView T E). LeavesSession old c) (sym is.1) (rested_leaves old kind Idle)
+    → (flash_under old.hierarchy).on ≡ true → IsBackBy action kind old back new → LeavesSession old kind back new
+chosen_leaves {T = T} {E = E} None kind old back new on is = rw (is.0, is.1) (rested_leaves old kind Idle)
 chosen_leaves {T = T} {E = E} (Some action) kind old back new on is =
-    subst (λ (c : CoreView T E). LeavesSession old c) (sym is.core)
+    rw is.answer (subst (λ (c : CoreView T E). LeavesSession old kind (back_of action is.progress) c) (sym is.core)
     (acted_leaves is.progress action kind old new.hierarchy
-    (performs_leaves action old.hierarchy is.progress new.hierarchy on is.performs))
+    (performs_leaves action old.hierarchy is.progress new.hierarchy on is.performs)
+    (performs-runs action old.hierarchy is.progress new.hierarchy on is.performs)))
 
 back_at_leaves : {T E : Type 0} (spent : Bool) (score : E → Bool → ℕ → ℕ) (kind : Kind) (old : CoreView T E) (back : Back)
-    (new : CoreView T E) → (flash_under old.hierarchy).on ≡ true → IsBackAt spent score kind old back new → LeavesSession old new
-back_at_leaves {T = T} {E = E} true score kind old back new on is =
-    subst (λ (c : CoreView T E). LeavesSession old c) (sym is.1) (rested_leaves old kind Spent)
+    (new : CoreView T E) → (flash_under old.hierarchy).on ≡ true → IsBackAt spent score kind old back new
+    → LeavesSession old kind back new
+back_at_leaves true score kind old back new on is = rw (is.0, is.1) (rested_leaves old kind Spent)
 back_at_leaves false score kind old back new on is = chosen_leaves is.action kind old back new on is.turn
 
--- nothing was done
-unchanged_leaves : {T E : Type 0} (old new : CoreView T E) → new ≡ old → LeavesSession old new
-unchanged_leaves {T = T} {E = E} old new same =
-    subst (λ (c : CoreView T E). LeavesSession old c) (sym same)
-    (left_by old old refl (left_still old.hierarchy old.hierarchy refl refl refl))
+-- the power was off, and nothing was done
+unchanged_leaves : {T E : Type 0} (old : CoreView T E) (kind : Kind) → (flash_under old.hierarchy).on ≡ false
+    → LeavesSession old kind BackOff old
+unchanged_leaves old kind off =
+    left_by old kind BackOff old refl (left_still old.hierarchy old.hierarchy refl refl refl) (cut refl refl off)
+    (omega arith) (omega arith)
 
 back_leaves_by : {T E : Type 0} (on : Bool) (score : E → Bool → ℕ → ℕ) (kind : Kind) (old : CoreView T E) (back : Back)
-    (new : CoreView T E) → (flash_under old.hierarchy).on ≡ on → IsBack on score kind old back new → LeavesSession old new
-back_leaves_by false score kind old back new on is = unchanged_leaves old new is.1
+    (new : CoreView T E) → (flash_under old.hierarchy).on ≡ on → IsBack on score kind old back new → LeavesSession old kind back new
+back_leaves_by false score kind old back new on is = rw (is.0, is.1) (unchanged_leaves old kind on)
 back_leaves_by true score kind old back new on is = back_at_leaves (old.events == last_event) score kind old back new on is
 
--- a background turn leaves the session
-pub back_same : {T E : Type 0} (score : E → Bool → ℕ → ℕ) (kind : Kind) (old : CoreView T E) (back : Back) (new : CoreView T E)
-    → IsBack (flash_under old.hierarchy).on score kind old back new → SameSession old new
-back_same score kind old back new is =
-    (back_leaves_by (flash_under old.hierarchy).on score kind old back new refl is).same
+-- one event of a background turn
+pub back_event : {T E : Type 0} (score : E → Bool → ℕ → ℕ) (kind : Kind) (old : CoreView T E) (back : Back) (new : CoreView T E)
+    → IsBack (flash_under old.hierarchy).on score kind old back new → IsBackEvent old kind back new
+back_event score kind old back new is =
+    (back_leaves_by (flash_under old.hierarchy).on score kind old back new refl is).event
 
 pub back_on : {T E : Type 0} (score : E → Bool → ℕ → ℕ) (kind : Kind) (old : CoreView T E) (back : Back) (new : CoreView T E)
     → IsBack (flash_under old.hierarchy).on score kind old back new
@@ -238,4 +277,4 @@ pub turn_on : {T E : Type 0} (answers : T → ℕ → ℕ → ℕ → ℕ → Ty
 turn_on answers old caller number op turn new is =
     turn_on_by (flash_under old.hierarchy).on answers old caller number op turn new is
 
-pub ruleset back_leaves = (back_same, back_on)
+pub ruleset back_leaves = (back_event, back_on)

@@ -13,6 +13,7 @@ use Rattle.ff_plb.specs.declared.slot.NextStep.TheVariants.{Finish, Land, Lift}
 use Rattle.ff_plb.specs.declared.slot.Slot.{Slot}
 use Rattle.ff_plb.specs.declared.slot.Way.{Way}
 use Rattle.ff_plb.specs.declared.slot.Way.TheVariants.{Coming, Leaving}
+use Rattle.ff_policy.specs.Counters.{is_among}
 use Rattle.ff_policy.specs.Policy.{IsHot}
 use Rattle.ff_store.specs.Calls.{WantsCollect}
 use Rattle.ff_core.specs.Hierarchy.{HierarchyView, lines_under}
@@ -42,6 +43,22 @@ pub record IsPromotable {T E : Type 0} (h : HierarchyView T E) (page : ℕ) : Ty
 pub record IsLeastPromotable {T E : Type 0} (h : HierarchyView T E) (page : ℕ) : Type 0 where
   pub is : IsPromotable h page
   pub least : (other : ℕ) → IsPromotable h other → page ≤ other
+
+-- the least of these pages that may come in and is hot, or there is none
+abbrev pub IsLeastAmong : {T E : Type 0} → HierarchyView T E → List PageNo → Option PageNo → Type 0
+IsLeastAmong h pages None = (page : ℕ) → is_among pages page ≡ true → IsPromotable h page → ⊥
+IsLeastAmong h pages (Some least) =
+    IsPromotable h least.0
+    × ((page : ℕ) → is_among pages page ≡ true → IsPromotable h page → least.0 ≤ page)
+
+-- one more page is looked at: it is none to be chosen, or the least before is no greater, or it is the least now
+pub data IsLesser {T E : Type 0} (h : HierarchyView T E) (least : Option PageNo) (page : PageNo)
+    (result : Option PageNo) : Type 0 where
+  passes : (IsPromotable h page.0 → ⊥) → result ≡ least → IsLesser h least page result
+  keeps : (other : PageNo) → least ≡ Some other → other.0 ≤ page.0 → result ≡ least
+      → IsLesser h least page result
+  takes : IsPromotable h page.0 → ((other : PageNo) → least ≡ Some other → page.0 ≤ other.0)
+      → result ≡ Some page → IsLesser h least page result
 
 abbrev pub PromoteChoice : {T E : Type 0} → HierarchyView T E → Option Action → Type 0
 PromoteChoice h None =

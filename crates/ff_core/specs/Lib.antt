@@ -1,3 +1,5 @@
+pub mod Account
+pub mod BackEvents
 pub mod Backs
 pub mod CanPerform
 pub mod Choices

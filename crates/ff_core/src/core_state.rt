@@ -6,10 +6,10 @@ ghost use Rattle.ff_lines.specs.DeviceState.{IsDevice};
 ghost use Rattle.ff_memory.specs.Memory.{IsMemorySound};
 ghost use Rattle.ff_model.specs.Legal.{IsLegal};
 ghost use Rattle.ff_model.specs.declared.counts.Kind.TheVariants.{Promote, Evict, Collect, Drain};
+ghost use Rattle.ff_core.specs.BackEvents.{IsBackEvent};
 ghost use Rattle.ff_core.specs.Backs.{IsBack};
 ghost use Rattle.ff_core.specs.Core.{counts_of, spare_calls, spare_turns};
 ghost use Rattle.ff_core.specs.CoreSound.{IsCoreSound};
-ghost use Rattle.ff_core.specs.Drives.{SameSession};
 ghost use Rattle.ff_core.specs.Fresh.{IsFreshFlash, fresh_core};
 ghost use Rattle.ff_core.specs.Hierarchy.{flash_under, lines_under};
 ghost use Rattle.ff_core.specs.Turns.{IsTurn};
@@ -108,7 +108,7 @@ impl<F: Flash, T: Tune, E: Pick> Core<F, T, E> {
         requires spare { 0 < spare_turns self.old }
         ensures back { IsBack (flash_under self.old.hierarchy).on E.score Promote self.old result
             self.new }
-        ensures same { SameSession self.old self.new }
+        ensures event { IsBackEvent self.old Promote result self.new }
         ensures on { StaysOn (flash_under self.old.hierarchy) (flash_under self.new.hierarchy) }
     {
         self.parts_known();
@@ -121,7 +121,7 @@ impl<F: Flash, T: Tune, E: Pick> Core<F, T, E> {
         requires spare { 0 < spare_turns self.old }
         ensures back { IsBack (flash_under self.old.hierarchy).on E.score Evict self.old result
             self.new }
-        ensures same { SameSession self.old self.new }
+        ensures event { IsBackEvent self.old Evict result self.new }
         ensures on { StaysOn (flash_under self.old.hierarchy) (flash_under self.new.hierarchy) }
     {
         self.parts_known();
@@ -134,7 +134,7 @@ impl<F: Flash, T: Tune, E: Pick> Core<F, T, E> {
         requires spare { 0 < spare_turns self.old }
         ensures back { IsBack (flash_under self.old.hierarchy).on E.score Collect self.old result
             self.new }
-        ensures same { SameSession self.old self.new }
+        ensures event { IsBackEvent self.old Collect result self.new }
         ensures on { StaysOn (flash_under self.old.hierarchy) (flash_under self.new.hierarchy) }
     {
         self.parts_known();
@@ -147,7 +147,7 @@ impl<F: Flash, T: Tune, E: Pick> Core<F, T, E> {
         requires spare { 0 < spare_turns self.old }
         ensures back { IsBack (flash_under self.old.hierarchy).on E.score Drain self.old result
             self.new }
-        ensures same { SameSession self.old self.new }
+        ensures event { IsBackEvent self.old Drain result self.new }
         ensures on { StaysOn (flash_under self.old.hierarchy) (flash_under self.new.hierarchy) }
     {
         self.parts_known();

@@ -1,5 +1,5 @@
 // What an input asks for: its settings and the rows of its trace.
-ghost use Rattle.std.specs.Prelude.{◌≡◌, ◌≤◌, ◌<◌, ◌+◌, ◌*◌, ℕ, length, vec_len, Some, IfOk, IfErr, IfNone, IfSome};
+ghost use Rattle.std.specs.Prelude.{◌≡◌, ◌≤◌, ◌<◌, ◌+◌, ◌*◌, ℕ, [], length, vec_len, Some, IfOk, IfErr, IfNone, IfSome};
 ghost use Rattle.ff_trace.specs.Tally.{most_rows, most_turns};
 ghost use Rattle.ff_settings.specs.Bounds.{IsSettingsSound};
 ghost use Rattle.ff_settings.specs.Settings.{settings_view};
@@ -44,6 +44,8 @@ pub fn read_asked<S: Source>(alloc: Global, source: &mut S) -> Result<Asked, Bad
     ensures sound { IfOk result (λ asked. IsSettingsSound (settings_view asked.settings)) }
     ensures few { IfOk result (λ asked. vec_len asked.rows ≤ most_rows) }
     ensures turns { IfOk result (λ asked. turns_asked asked.rows.items ≤ 4 * most_turns) }
+    ensures uncut { IfOk result (λ asked. (settings_view asked.settings).plan.cuts ≡ []) }
+    ensures run { IfOk result (λ asked. AreRun asked.rows.items) }
     ensures err { IfErr result
         (IsInputCause (source_change S.left S.faults source.old source.new)) }
 {
@@ -61,6 +63,8 @@ fn read_parts(alloc: Global, input: &[u8]) -> Result<Asked, BadInput>
     ensures sound { IfOk result (λ asked. IsSettingsSound (settings_view asked.settings)) }
     ensures few { IfOk result (λ asked. vec_len asked.rows ≤ most_rows) }
     ensures turns { IfOk result (λ asked. turns_asked asked.rows.items ≤ 4 * most_turns) }
+    ensures uncut { IfOk result (λ asked. (settings_view asked.settings).plan.cuts ≡ []) }
+    ensures run { IfOk result (λ asked. AreRun asked.rows.items) }
     ensures err { IfErr result (IsPartsCause input.now) }
 {
     let Some(parts) = parts_of(input) else {

@@ -1,24 +1,13 @@
 // Writes the calls of a session.
 ghost use Rattle.ff_report.specs.EntryText.{entries_text};
-ghost use Rattle.ff_report.specs.Text.{calls_text, history_text};
+ghost use Rattle.ff_report.specs.Text.{calls_text};
 ghost use Rattle.ff_report.specs.Wrote.{Wrote};
 
-use crate::counts::{end_line_of, session_line_of};
+use crate::counts::session_line_of;
 use crate::entry::entry_line_of;
 use crate::writing::write_line;
 use ff_io::{Failed, Sink};
-use ff_model::{Entry, History};
-
-/// Writes the text of a session that has nothing but its history, the `at`th from 0.
-pub fn write_history<K: Sink>(sink: &mut K, at: u32, history: &History) -> Result<(), Failed>
-    ensures { Wrote result (K.written sink.old) (K.written sink.new)
-        (K.faults sink.old) (K.faults sink.new) (history_text at history.now.entries) }
-{
-    match write_calls(sink, at, history.as_slice()) {
-        Ok(()) => write_line(sink, &end_line_of()),
-        Err(failed) => Err(failed),
-    }
-}
+use ff_model::Entry;
 
 /// Writes the line that opens a session, and a line an entry.
 pub fn write_calls<K: Sink>(sink: &mut K, at: u32, entries: &[Entry]) -> Result<(), Failed>

@@ -9,14 +9,15 @@ mod image;
 mod image_lines;
 mod line;
 mod parts;
+mod run;
 mod session;
 mod summary;
 #[cfg(test)]
 mod tests;
 mod writing;
 
-pub use calls::write_history;
 pub use line::{LINE_ROOM, Line};
 pub use parts::{Remounted, SessionParts};
+pub use run::{write_run, write_run_summary};
 pub use session::write_session;
 pub use summary::write_summary;

@@ -1,6 +1,7 @@
 // The texts of sessions, each written whole, and cut off by each of its writes that fails.
 
 mod sessions;
+mod texts;
 
 use super::*;
 use ff_base::NoMemory;
@@ -11,20 +12,29 @@ use sessions::{
 };
 use std::alloc::Global;
 use std::test::Fail;
-
-// A text of a session, with the number that its first line has.
-#[derive(Clone, Copy)]
-enum Text {
-    Session(u32),
-    Summary(u32),
-    History(u32),
-}
+use texts::{Made, TEXTS, Text};
 
 fn write(sink: &mut MemorySink, text: Text, parts: &SessionParts<'_>) -> Result<(), Failed> {
+    let (history, turns, counts) = (parts.history, &parts.turns, &parts.counts);
     match text {
         Text::Session(at) => write_session(sink, at, parts),
         Text::Summary(number) => write_summary(sink, number, parts),
-        Text::History(at) => write_history(sink, at, parts.history),
+        Text::Run(at) => write_run(sink, at, history, turns, counts),
+        Text::RunSummary(number) => write_run_summary(sink, number, history, turns, counts),
+    }
+}
+
+fn make(alloc: Global, made: Made) -> Result<Session, NoMemory> {
+    match made {
+        Made::WithoutCalls => without_calls(alloc),
+        Made::TwoStoresAndALoad => two_stores_and_a_load(alloc),
+        Made::StoreIntoAPromotion => store_into_a_promotion(alloc),
+        Made::MarkOfAPromotedPage => mark_of_a_promoted_page(alloc),
+        Made::MarkOfALine(arrived) => mark_of_a_line(alloc, arrived),
+        Made::MarkOutOfRange => mark_out_of_range(alloc),
+        Made::WithFault => without_image(alloc, Remount::Fault),
+        Made::WithoutPower => without_image(alloc, Remount::Off),
+        Made::EveryForm => every_form(alloc),
     }
 }
 
@@ -65,277 +75,12 @@ fn is_cut(
     Ok(is_answer && sink.written() == wanted && sink.faults() == u64::from(fails))
 }
 
-fn says(alloc: Global, session: Session, text: Text, wanted: &str) -> Result<bool, NoMemory> {
-    is_text(alloc, text, &session.parts(), wanted)
-}
-
 #[test]
-fn the_text_of_a_session_has_a_line_for_each_fact(rt: HostRuntime) -> Result<(), Fail> {
-    let alloc = rt.alloc();
-    let text = Text::Session(0);
-    let session = without_calls(alloc)?;
-    assert!(rt;
-        says(
-            alloc,
-            session,
-            text,
-            "session 0\n\
-        turns promote 0 0 evict 0 0 collect 0 0 drain 0 0\n\
-        lines device 0 host 0 landed 0 dropped 0\n\
-        moves promoted 0 retreated 0\n\
-        flash reads 0 programs 0 seals 0 erases 0 faults 0\n\
-        kept 0\n\
-        pages 0\n\
-        end\n"
-        )?
-    );
-    let session = two_stores_and_a_load(alloc)?;
-    assert!(rt;
-        says(
-            alloc,
-            session,
-            text,
-            "session 0\n\
-        0 0 store 10 aabb done\n\
-        0 1 store 11 cc done\n\
-        0 2 load 10 3 aacc00\n\
-        turns promote 0 0 evict 0 0 collect 0 0 drain 0 0\n\
-        lines device 3 host 0 landed 0 dropped 0\n\
-        moves promoted 0 retreated 0\n\
-        flash reads 0 programs 0 seals 0 erases 0 faults 0\n\
-        kept 3\n\
-        pages 1\n\
-        line 0 0 00000000000000000000aacc00000000000000000000000000000000000000000000000000000\
-        000000000000000000000000000000000000000000000000000\n\
-        end\n"
-        )?
-    );
-    let session = store_into_a_promotion(alloc)?;
-    assert!(rt;
-        says(
-            alloc,
-            session,
-            text,
-            "session 0\n\
-        0 0 load 0 1 00\n\
-        0 1 load 0 1 00\n\
-        0 2 load 0 1 00\n\
-        0 3 load 0 1 00\n\
-        0 4 store 320 111111111111111111111111111111111111111111111111111111111111111111111111\
-        11111111111111111111111111111111111111111111111111111111 done\n\
-        0 5 load 320 2 1111\n\
-        turns promote 13 13 evict 0 0 collect 0 0 drain 0 0\n\
-        lines device 4 host 2 landed 5 dropped 1\n\
-        moves promoted 1 retreated 0\n\
-        flash reads 0 programs 0 seals 0 erases 0 faults 0\n\
-        kept 6\n\
-        pages 0\n\
-        end\n"
-        )?
-    );
-    let session = mark_of_a_promoted_page(alloc)?;
-    assert!(rt;
-        says(
-            alloc,
-            session,
-            text,
-            "session 0\n\
-        0 0 load 0 1 00\n\
-        0 1 load 0 1 00\n\
-        0 2 load 0 1 00\n\
-        0 3 load 0 1 00\n\
-        0 4 store 0 aa done\n\
-        0 5 store 576 bb done\n\
-        0 6 mark 0 done\n\
-        0 7 load 0 1 aa\n\
-        0 8 load 576 1 bb\n\
-        turns promote 12 12 evict 0 0 collect 0 0 drain 0 0\n\
-        lines device 6 host 2 landed 7 dropped 0\n\
-        moves promoted 1 retreated 1\n\
-        flash reads 0 programs 0 seals 0 erases 0 faults 0\n\
-        kept 9\n\
-        pages 1\n\
-        mark 0\n\
-        line 0 0 aa000000000000000000000000000000000000000000000000000000000000000000000000000\
-        000000000000000000000000000000000000000000000000000\n\
-        line 0 9 bb000000000000000000000000000000000000000000000000000000000000000000000000000\
-        000000000000000000000000000000000000000000000000000\n\
-        end\n"
-        )?
-    );
-    let session = mark_of_a_line(alloc, 0)?;
-    assert!(rt;
-        says(
-            alloc,
-            session,
-            text,
-            "session 0\n\
-        0 0 mark 0 9+1 done\n\
-        0 1 store 0 aa done\n\
-        0 2 store 576 bb done\n\
-        turns promote 0 0 evict 0 0 collect 0 0 drain 0 0\n\
-        lines device 2 host 0 landed 0 dropped 0\n\
-        moves promoted 0 retreated 0\n\
-        flash reads 0 programs 0 seals 0 erases 0 faults 0\n\
-        kept 1\n\
-        pages 0\n\
-        mark 0 0000000000000200\n\
-        end\n"
-        )?
-    );
-    let session = mark_of_a_line(alloc, 1)?;
-    assert!(rt;
-        says(
-            alloc,
-            session,
-            text,
-            "session 0\n\
-        0 0 mark 0 9+1 done\n\
-        0 1 store 0 aa done\n\
-        0 2 store 576 bb done\n\
-        turns promote 0 0 evict 0 0 collect 0 0 drain 0 0\n\
-        lines device 2 host 0 landed 0 dropped 0\n\
-        moves promoted 0 retreated 0\n\
-        flash reads 0 programs 0 seals 0 erases 0 faults 0\n\
-        kept 2\n\
-        pages 1\n\
-        mark 0 0000000000000200\n\
-        line 0 0 aa000000000000000000000000000000000000000000000000000000000000000000000000000\
-        000000000000000000000000000000000000000000000000000\n\
-        end\n"
-        )?
-    );
-    let session = mark_out_of_range(alloc)?;
-    assert!(rt;
-        says(
-            alloc,
-            session,
-            text,
-            "session 0\n\
-        0 0 mark 0 60+5 range\n\
-        turns promote 0 0 evict 0 0 collect 0 0 drain 0 0\n\
-        lines device 0 host 0 landed 0 dropped 0\n\
-        moves promoted 0 retreated 0\n\
-        flash reads 0 programs 0 seals 0 erases 0 faults 0\n\
-        kept 1\n\
-        pages 0\n\
-        end\n"
-        )?
-    );
-    let session = without_image(alloc, Remount::Fault)?;
-    assert!(rt;
-        says(
-            alloc,
-            session,
-            text,
-            "session 0\n\
-        turns promote 0 0 evict 0 0 collect 0 0 drain 0 0\n\
-        lines device 0 host 0 landed 0 dropped 0\n\
-        moves promoted 0 retreated 0\n\
-        flash reads 0 programs 0 seals 0 erases 0 faults 0\n\
-        kept 0\n\
-        no image fault\n\
-        end\n"
-        )?
-    );
-    let session = without_image(alloc, Remount::Off)?;
-    assert!(rt;
-        says(
-            alloc,
-            session,
-            text,
-            "session 0\n\
-        turns promote 0 0 evict 0 0 collect 0 0 drain 0 0\n\
-        lines device 0 host 0 landed 0 dropped 0\n\
-        moves promoted 0 retreated 0\n\
-        flash reads 0 programs 0 seals 0 erases 0 faults 0\n\
-        kept 0\n\
-        no image off\n\
-        end\n"
-        )?
-    );
-    let session = every_form(alloc)?;
-    assert!(rt;
-        says(
-            alloc,
-            session,
-            Text::Session(4294967295),
-            "session 4294967295\n\
-        65535 4294967295 store 4294967295 4142434445464748494a4b4c4d4e4f505152535455565758595a\
-        6162636465666768696a6b6c6d6e6f707172737475767778797a303132333435363738392b2f 414243444\
-        5464748494a4b4c4d4e4f505152535455565758595a6162636465666768696a6b6c6d6e6f7071727374757\
-        67778797a303132333435363738392b2f\n\
-        0 0 store 5 - done\n\
-        65535 4294967295 verify spent\n\
-        65535 4294967295 release 4294967295 0+63 full\n\
-        0 1 mark 2 1+64 fault\n\
-        0 2 load 0 0 -\n\
-        turns promote 4294967295 4294967288 evict 10 3 collect 9 2 drain 8 1\n\
-        lines device 18446744073709551615 host 1 landed 2 dropped 3\n\
-        moves promoted 4 retreated 5\n\
-        flash reads 6 programs 7 seals 8 erases 9 faults 18446744073709551614\n\
-        kept 4294967295\n\
-        pages 1\n\
-        mark 0 fffffffffffffffe\n\
-        line 0 0 fffffffffffffffffffffffffffffffffffffffffffffffffffffffffffffffffffffffffffff\
-        fffffffffffffffffffffffffffffffffffffffffffffffffff\n\
-        line 0 9 0a0a0a0a0a0a0a0a0a0a0a0a0a0a0a0a0a0a0a0a0a0a0a0a0a0a0a0a0a0a0a0a0a0a0a0a0a0a0\
-        a0a0a0a0a0a0a0a0a0a0a0a0a0a0a0a0a0a0a0a0a0a0a0a0a0a\n\
-        end\n"
-        )?
-    );
-    Ok(())
-}
-
-#[test]
-fn a_summary_and_a_history_have_some_of_these_lines(rt: HostRuntime) -> Result<(), Fail> {
-    let alloc = rt.alloc();
-    let session = two_stores_and_a_load(alloc)?;
-    assert!(rt;
-        says(
-            alloc,
-            session,
-            Text::Summary(7),
-            "load 7\n\
-        calls 3\n\
-        turns promote 0 0 evict 0 0 collect 0 0 drain 0 0\n\
-        lines device 3 host 0 landed 0 dropped 0\n\
-        moves promoted 0 retreated 0\n\
-        flash reads 0 programs 0 seals 0 erases 0 faults 0\n\
-        kept 3\n\
-        pages 1\n\
-        end\n"
-        )?
-    );
-    let session = without_image(alloc, Remount::Off)?;
-    assert!(rt;
-        says(
-            alloc,
-            session,
-            Text::Summary(4294967295),
-            "load 4294967295\n\
-        calls 0\n\
-        turns promote 0 0 evict 0 0 collect 0 0 drain 0 0\n\
-        lines device 0 host 0 landed 0 dropped 0\n\
-        moves promoted 0 retreated 0\n\
-        flash reads 0 programs 0 seals 0 erases 0 faults 0\n\
-        kept 0\n\
-        no image off\n\
-        end\n"
-        )?
-    );
-    let session = two_stores_and_a_load(alloc)?;
-    assert!(rt;
-        says(
-            alloc,
-            session,
-            Text::History(1),
-            "session 1\n\
-        0 0 store 10 aabb done\n\
-        0 1 store 11 cc done\n\
-        0 2 load 10 3 aacc00\n\
-        end\n"
-        )?
-    );
+fn each_text_is_written_line_by_line(rt: HostRuntime) -> Result<(), Fail> {
+    for (at, (made, text, wanted)) in TEXTS.iter().enumerate() {
+        let session = make(rt.alloc(), *made)?;
+        let is_as_wanted = is_text(rt.alloc(), *text, &session.parts(), wanted)?;
+        assert!(rt; is_as_wanted, "text {at}");
+    }
     Ok(())
 }

@@ -1,3 +1,6 @@
-pub mod Driven
-pub mod Taken
+pub mod Generated
+pub mod Making
+pub mod Numbers
+pub mod Sessions
 pub mod Told
+pub mod Work

@@ -1,72 +1,68 @@
 -- How a call of the program ends, by the words, the input and the faults, and what it tells.
-use Rattle.std.specs.Prelude.{ℕ, ◌+◌, ◌≡◌, ◌≤◌, ◌⊎◌, ◌==◌, if◌then◌else◌, false, List, [], ◌∷◌, ◌++◌, codes, decimal, Option, None, Some, Result, Ok, Err, ⊤}
+use Rattle.std.specs.Prelude.{ℕ, ◌+◌, ◌×◌, ◌≡◌, ◌≤◌, ◌⊎◌, ◌==◌, if◌then◌else◌, List, [], ◌∷◌, ◌++◌, codes, decimal, Option, Result, Ok, Err}
+use Rattle.std.specs.List.{flat_map}
 use Rattle.std.specs.Io.KnownBytes.{Appends}
 use Rattle.ff_base.specs.Count.{Rose}
+use Rattle.ff_core.specs.Log.{turn_counts}
+use Rattle.ff_gen.specs.Generated.{generated}
+use Rattle.ff_input.specs.Asking.{Asks, IsInputCause}
+use Rattle.ff_input.specs.Input.{HasNoFault, SourceChange, Untouched}
+use Rattle.ff_input.specs.declared.reading.BadInput.{BadInput}
+use Rattle.ff_input.specs.declared.reading.BadInput.TheVariants as bad_input
 use Rattle.ff_io.specs.Known.{AppendsPrefix}
-use Rattle.ff_report.specs.Text.{history_text}
-use Rattle.ff_trace.specs.Trace.{IsTrace, IsCauseOf}
+use Rattle.ff_report.specs.Text.{run_summary, run_text}
+use Rattle.ff_settings.specs.Names.{text_of}
+use Rattle.ff_settings.specs.SettingsView.{SettingsView}
+use Rattle.ff_settings.specs.declared.given.BadSettings.{BadSettings}
+use Rattle.ff_settings.specs.declared.given.BadSettings.TheVariants as bad_settings
 use Rattle.ff_trace.specs.declared.row.Row.{Row}
-use Rattle.ff_trace.specs.declared.tally.Limits.{Limits}
-use Rattle.ff_trace.specs.declared.trace_rows.BadTrace.TheVariants as bad
-use Rattle.flatflash.specs.Input.{SourceChange, HasNoFault, Untouched, ReadsTooMuch, FailsToRead, ReadsWhole, HasTrace, trace_part}
-use Rattle.flatflash.specs.Runs.{AreSessionsOf, first_other}
-use Rattle.flatflash.specs.Words.{AreNoCommand, AskToSchedule}
+use Rattle.flatflash.specs.Loads.{load_setup}
+use Rattle.flatflash.specs.Sessions.{AreSessionsOf, setup_of}
+use Rattle.flatflash.specs.Words.{AskToLoad, AskToSchedule, IsWordsCause}
 use Rattle.flatflash.specs.declared.refusal.Refusal.{Refusal}
 use Rattle.flatflash.specs.declared.refusal.Refusal.TheVariants as refusal
 use Rattle.flatflash.specs.declared.session.Session.{Session}
 
--- a run gives its sessions, or is refused
-abbrev pub End : Type 0
-End = Result (List Session) Refusal
+-- the rows of the input were run, or those that a number makes, or the call was refused
+pub data End : Type 0 where
+  ran : List Session → End
+  loaded : ℕ → List Session → End
+  refused : Refusal → End
 
--- the rows of a trace are run one after the other, and the power is never cut
-abbrev pub one_thread : Limits
-one_thread = record { cuts = 0; threads = false }
+-- the whole input was read, and the sessions are those of its rows under its settings, by a tuner of this floor
+abbrev pub RunsInput : ℕ → SourceChange → List Session → Type 0
+RunsInput floor source sessions =
+    (settings : SettingsView) × (rows : List Row) × Asks source settings rows
+    × AreSessionsOf (setup_of settings floor) rows sessions
 
--- all records of the trace are rows, and that of this number is the first whose row isn't run
-pub record IsFirstOther (trace : List ℕ) (number : ℕ) : Type 0 where
-  pub rows : List Row
-  pub is_trace : IsTrace one_thread trace rows
-  pub before : ℕ
-  pub first : first_other rows ≡ Some before
-  pub place : number ≡ before + 1
+-- why a run of the input is refused. Want of memory has no cause, and no read failed before it
+abbrev pub IsRunRefusal : SourceChange → Refusal → Type 0
+IsRunRefusal source refusal.NoMemory = HasNoFault source
+IsRunRefusal source refusal.Usage = ⊥
+IsRunRefusal source (refusal.Input why) = IsInputCause source why
 
--- why words are refused. Want of memory has no cause.
-abbrev pub IsWordsCause : List (List ℕ) → Refusal → Type 0
-IsWordsCause words refusal.NoMemory = ⊤
-IsWordsCause words refusal.Usage = AreNoCommand words
-IsWordsCause words other = ⊥
+-- a run of the input, which its bytes and its faults allow to end so
+abbrev pub IsInputEnd : ℕ → SourceChange → End → Type 0
+IsInputEnd floor source (ran sessions) = RunsInput floor source sessions
+IsInputEnd floor source (loaded number sessions) = ⊥
+IsInputEnd floor source (refused why) = IsRunRefusal source why
 
--- why an input that is to be run is refused. Each cause says that those before it don't hold; want
--- of memory has none, and no read failed before it.
-abbrev pub IsRunCause : SourceChange → Refusal → Type 0
-IsRunCause source refusal.NoMemory = HasNoFault source
-IsRunCause source refusal.Usage = ⊥
-IsRunCause source refusal.ReadFault = FailsToRead source
-IsRunCause source refusal.TooLong = ReadsTooMuch source
-IsRunCause source refusal.NoSeparator = ReadsWhole source (λ bytes. trace_part bytes ≡ None)
-IsRunCause source (refusal.BadRow number) =
-    ReadsWhole source
-    (HasTrace (λ trace. IsCauseOf one_thread trace (bad.Row number) ⊎ IsFirstOther trace number))
+-- a run of the rows that a number makes; want of memory alone refuses it
+abbrev pub IsLoadEnd : ℕ → ℕ → End → Type 0
+IsLoadEnd floor number (ran sessions) = ⊥
+IsLoadEnd floor number (loaded given sessions) =
+    (given ≡ number) × AreSessionsOf (load_setup floor) (generated number) sessions
+IsLoadEnd floor number (refused why) = why ≡ refusal.NoMemory
 
--- why a call of the program is refused: by its words, and then nothing was read, or by its input
-abbrev pub IsRefusal : List (List ℕ) → SourceChange → Refusal → Type 0
-IsRefusal words source why =
-    (IsWordsCause words why × Untouched source) ⊎ (AskToSchedule words × IsRunCause source why)
-
--- the whole input was read, and its trace is these rows
-abbrev pub ReadsRows : SourceChange → List Row → Type 0
-ReadsRows source rows = ReadsWhole source (HasTrace (λ trace. IsTrace one_thread trace rows))
-
--- the whole input was read, and the sessions are those of its rows
-abbrev pub RunsInput : SourceChange → List Session → Type 0
-RunsInput source sessions = (rows : List Row) × ReadsRows source rows × AreSessionsOf rows sessions
-
--- the words, the input and its faults allow this end
-abbrev pub IsEnd : List (List ℕ) → SourceChange → End → Type 0
-IsEnd words source (Ok sessions) =
-    AskToSchedule words × RunsInput source sessions
-IsEnd words source (Err why) = IsRefusal words source why
+-- the words, the input and its faults allow this end, where the tuner has this floor: the input was run as the words
+-- ask, or the rows of their number, or the words are refused. Where they don't ask for the input, nothing was read
+pub data IsEnd (floor : ℕ) (words : List (List ℕ)) (source : SourceChange) (end : End)
+    : Type 0 where
+  schedules : AskToSchedule words → IsInputEnd floor source end → IsEnd floor words source end
+  loads : (number : ℕ) → AskToLoad words number → Untouched source → IsLoadEnd floor number end
+      → IsEnd floor words source end
+  refuses : (why : Refusal) → IsWordsCause words why → Untouched source → end ≡ refused why
+      → IsEnd floor words source end
 
 -- a sink before and after a call: the bytes that it holds, where it tells them, and how often it
 -- has failed
@@ -86,44 +82,86 @@ sink_change written faults old new =
       faults_after = faults new;
     }
 
+-- the text of a session
+abbrev pub session_text : ℕ → Session → List ℕ
+session_text at session =
+    run_text at session.account.entries (turn_counts session.account.turns) session.account.counts
+
 -- the texts of sessions, one after the other, the first of them with this number
 abbrev pub sessions_text : ℕ → List Session → List ℕ
 sessions_text at [] = []
-sessions_text at (session ∷ later) =
-    history_text at session.account.entries ++ sessions_text (at + 1) later
+sessions_text at (session ∷ later) = session_text at session ++ sessions_text (at + 1) later
+
+-- the summary of a session of a number's rows
+abbrev pub summary_text : ℕ → Session → List ℕ
+summary_text number session =
+    run_summary number session.account.entries (turn_counts session.account.turns)
+    session.account.counts
+
+-- the summaries of such sessions
+abbrev pub summaries_text : ℕ → List Session → List ℕ
+summaries_text number sessions = flat_map (summary_text number) sessions
+
+-- the line of settings that are refused
+abbrev pub settings_text : BadSettings → List ℕ
+settings_text bad_settings.NoMemory = []
+settings_text bad_settings.Text = codes "settings: text\n"
+settings_text bad_settings.Key = codes "settings: key\n"
+settings_text (bad_settings.Kind name) = codes "settings: kind " ++ text_of name ++ codes "\n"
+settings_text (bad_settings.Bound name) = codes "settings: bound " ++ text_of name ++ codes "\n"
+
+-- the line of an input that is refused
+abbrev pub input_text : BadInput → List ℕ
+input_text bad_input.NoMemory = []
+input_text bad_input.ReadFault = codes "read fault\n"
+input_text bad_input.TooLong = codes "trace: too long\n"
+input_text bad_input.NoSeparator = codes "trace: no separator\n"
+input_text (bad_input.BadSettings why) = settings_text why
+input_text (bad_input.BadRow number) = codes "trace: row " ++ decimal number ++ codes "\n"
 
 -- the line of a refusal
 abbrev pub refusal_text : Refusal → List ℕ
 refusal_text refusal.NoMemory = []
 refusal_text refusal.Usage = codes "usage: flatflash schedule, threads or load N\n"
-refusal_text refusal.ReadFault = codes "read fault\n"
-refusal_text refusal.TooLong = codes "trace: too long\n"
-refusal_text refusal.NoSeparator = codes "trace: no separator\n"
-refusal_text (refusal.BadRow number) = codes "trace: row " ++ decimal number ++ codes "\n"
+refusal_text (refusal.Input why) = input_text why
 
 -- the text of an end
 abbrev pub end_text : End → List ℕ
-end_text (Ok sessions) = sessions_text 0 sessions
-end_text (Err why) = refusal_text why
+end_text (ran sessions) = sessions_text 0 sessions
+end_text (loaded number sessions) = summaries_text number sessions
+end_text (refused why) = refusal_text why
+
+-- the status of settings that are refused
+abbrev pub settings_status : BadSettings → ℕ
+settings_status bad_settings.NoMemory = 6
+settings_status why = 2
+
+-- the status of an input that is refused
+abbrev pub input_status : BadInput → ℕ
+input_status bad_input.NoMemory = 6
+input_status bad_input.ReadFault = 4
+input_status bad_input.TooLong = 3
+input_status bad_input.NoSeparator = 3
+input_status (bad_input.BadSettings why) = settings_status why
+input_status (bad_input.BadRow number) = 3
 
 -- the status of a refusal
 abbrev pub refusal_status : Refusal → ℕ
-refusal_status refusal.Usage = 1
-refusal_status refusal.TooLong = 3
-refusal_status refusal.NoSeparator = 3
-refusal_status (refusal.BadRow number) = 3
-refusal_status refusal.ReadFault = 4
 refusal_status refusal.NoMemory = 6
+refusal_status refusal.Usage = 1
+refusal_status (refusal.Input why) = input_status why
 
 -- the status of an end
 abbrev pub end_status : End → ℕ
-end_status (Ok sessions) = 0
-end_status (Err why) = refusal_status why
+end_status (ran sessions) = 0
+end_status (loaded number sessions) = 0
+end_status (refused why) = refusal_status why
 
 -- the sessions of an end
 abbrev pub end_sessions : End → List Session
-end_sessions (Ok sessions) = sessions
-end_sessions (Err why) = []
+end_sessions (ran sessions) = sessions
+end_sessions (loaded number sessions) = sessions
+end_sessions (refused why) = []
 
 -- the whole text was written
 pub record TellsAll (sink : SinkChange) (end : End) (status : ℕ) : Type 0 where
@@ -146,10 +184,10 @@ pub record Tells (sink : SinkChange) (end : End) (status : ℕ)
   pub sessions_are : sessions ≡ end_sessions end
   pub told : TellsAll sink end status ⊎ FailsToTell sink end status
 
--- the call came to an end that the words, the input and its faults allow, and told it
-abbrev pub EndsAndTells : List (List ℕ) → SourceChange → SinkChange → ℕ → List Session → Type 0
-EndsAndTells words source sink status sessions =
-    (end : End) × IsEnd words source end × Tells sink end status sessions
+-- the call came to an end that is allowed, and told it
+abbrev pub EndsAndTells : (End → Type 0) → SinkChange → ℕ → List Session → Type 0
+EndsAndTells IsAllowed sink status sessions =
+    (end : End) × IsAllowed end × Tells sink end status sessions
 
 -- the status after the sink was flushed: where that fails, 5 stands in the place of every other
 -- but 6

@@ -1,4 +1,8 @@
 pub mod Ending
-pub mod Input
-pub mod Runs
+pub mod Items
+pub mod Loads
+pub mod Making
+pub mod Opening
+pub mod Rules
+pub mod Sessions
 pub mod Words

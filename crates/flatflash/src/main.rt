@@ -2,9 +2,11 @@
 //! exact.
 #![tactic(auto)]
 
-mod input;
+mod lines;
 mod outcome;
 mod refusal;
+mod rows;
+mod rules;
 mod run;
 mod schedule;
 mod session;
@@ -31,7 +33,8 @@ fn status(rt: &HostRuntime) -> Result<u8, NoMemory> {
     let words = words_of(rt)?;
     let mut source = HostSource::new(rt.alloc(), rt.stdin())?;
     let mut sink = HostSink::new(rt.alloc(), rt.stdout())?;
-    let outcome = schedule::schedule(rt.alloc(), &words, &mut source, &mut sink);
+    let (tuner, picker) = (rules::tuner(), rules::picker());
+    let outcome = schedule::schedule(rt.alloc(), &words, &mut source, &mut sink, tuner, picker);
     Ok(outcome::status_after(sink.flush(), outcome.status))
 }
 

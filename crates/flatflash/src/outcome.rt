@@ -11,6 +11,9 @@ pub const DONE: u8 = 0;
 /// The words aren't those of a command.
 pub const USAGE: u8 = 1;
 
+/// The settings are refused.
+pub const BAD_SETTINGS: u8 = 2;
+
 /// The input is too long or not of its form.
 pub const BAD_INPUT: u8 = 3;
 

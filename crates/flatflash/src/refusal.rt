@@ -3,6 +3,7 @@ ghost use Rattle.std.specs.Prelude.{◌≡◌};
 ghost use Rattle.flatflash.specs.declared.refusal.Refusal.TheVariants as refusals;
 
 use ff_base::NoMemory;
+use ff_input::BadInput;
 use std::alloc::AllocFailed;
 
 /// Why a run gives no session.
@@ -12,14 +13,8 @@ pub enum Refusal {
     NoMemory,
     /// The words aren't those of a command.
     Usage,
-    /// A read of the source failed.
-    ReadFault,
-    /// The input is longer than `INPUT_LIMIT` bytes.
-    TooLong,
-    /// The first line of the input isn't `---`.
-    NoSeparator,
-    /// The number of the trace's first record that isn't one of the forms. The header is record 0.
-    BadRow(u32),
+    /// The input can't be read, or isn't of its form.
+    Input(BadInput),
 }
 
 impl From<NoMemory> for Refusal {

@@ -1,34 +1,80 @@
-// The top call of the command `schedule`.
+// The top call of the commands `schedule` and `load`.
 ghost use Rattle.std.specs.Prelude.{map};
 ghost use Rattle.std.specs.String.{string_bytes};
-ghost use Rattle.flatflash.specs.Ending.{EndsAndTells, sink_change};
-ghost use Rattle.flatflash.specs.Input.{source_change};
+ghost use Rattle.ff_input.specs.Input.{source_change};
+ghost use Rattle.flatflash.specs.Ending.{EndsAndTells, IsEnd, IsInputEnd, IsLoadEnd, sink_change};
 
 use crate::outcome::Outcome;
-use crate::run::run;
-use crate::tell::{tell_refusal, tell_sessions};
+use crate::refusal::Refusal;
+use crate::run::{run_generated, run_input};
+use crate::tell::{tell_refusal, tell_sessions, tell_summary};
+use crate::words::{Asked, asked_of};
+use ff_base::NoMemory;
+use ff_evict::{Pick, Picker};
 use ff_io::{Sink, Source};
+use ff_policy::{Tune, Tuner};
 use std::alloc::Global;
 
-/// Runs the trace that the source gives, writes the text of its session or of the refusal, and
-/// answers both. The words are the program's name and its arguments.
+/// Runs the trace that the source gives, or the one that a number makes, writes the text of its
+/// session or of the refusal, and answers both. The words are the program's name and its arguments.
+/// The tuner sets the threshold at which a page is hot, and the picker scores the frames whose pages
+/// may go back.
 ///
-/// The session starts from nothing, its replies are those of a flat byte array, and its calls are
-/// the rows of the trace in their order. What each status means, and when it comes, is in
+/// The session starts from nothing, its replies are those of a flat byte array, and its calls and
+/// turns are the rows of the trace in their order. What each status means, and when it comes, is in
 /// `docs/FORMATS.md`.
-pub fn schedule<S: Source, K: Sink>(
+pub fn schedule<S: Source, K: Sink, T: Tune + Drop, E: Pick + Drop>(
     alloc: Global,
     words: &[String],
     source: &mut S,
     sink: &mut K,
+    tuner: Tuner<T>,
+    picker: Picker<E>,
 ) -> Outcome
-    ensures { EndsAndTells (map string_bytes words.now)
-        (source_change S.left S.faults source.old source.new)
+    ensures { EndsAndTells
+        (IsEnd tuner.floor (map string_bytes words.now)
+        (source_change S.left S.faults source.old source.new))
         (sink_change K.written K.faults sink.old sink.new)
         result.status result.sessions.items }
 {
-    match run(alloc, words, source) {
+    match asked_of(alloc, words) {
+        Ok(Asked::Schedule) => schedule_input(alloc, source, sink, tuner, picker),
+        Ok(Asked::Load(number)) => load(alloc, number, sink, tuner, picker),
+        Err(refusal) => tell_refusal(alloc, sink, refusal),
+    }
+}
+
+fn schedule_input<S: Source, K: Sink, T: Tune + Drop, E: Pick + Drop>(
+    alloc: Global,
+    source: &mut S,
+    sink: &mut K,
+    tuner: Tuner<T>,
+    picker: Picker<E>,
+) -> Outcome
+    ensures { EndsAndTells
+        (IsInputEnd tuner.floor (source_change S.left S.faults source.old source.new))
+        (sink_change K.written K.faults sink.old sink.new)
+        result.status result.sessions.items }
+{
+    match run_input(alloc, source, tuner, picker) {
         Ok(sessions) => tell_sessions(sink, sessions),
         Err(refusal) => tell_refusal(alloc, sink, refusal),
+    }
+}
+
+fn load<K: Sink, T: Tune + Drop, E: Pick + Drop>(
+    alloc: Global,
+    number: u32,
+    sink: &mut K,
+    tuner: Tuner<T>,
+    picker: Picker<E>,
+) -> Outcome
+    ensures { EndsAndTells (IsLoadEnd tuner.floor number)
+        (sink_change K.written K.faults sink.old sink.new)
+        result.status result.sessions.items }
+{
+    match run_generated(alloc, number, tuner, picker) {
+        Ok(sessions) => tell_summary(sink, number, sessions),
+        Err(NoMemory) => tell_refusal(alloc, sink, Refusal::NoMemory),
     }
 }

@@ -1,29 +1,32 @@
 // What is written of a run, and the status that it ends with.
-ghost use Rattle.std.specs.Prelude.{◌≡◌, ◌<◌, ◌^◌, ◌+◌, Ok, Err, length, vec_len};
+ghost use Rattle.std.specs.Prelude.{◌≡◌, ◌<◌, ◌^◌, length, vec_len};
 ghost use Rattle.ff_report.specs.Wrote.{Wrote};
-ghost use Rattle.flatflash.specs.Ending.{Tells, refusal_status, refusal_text, sessions_text, sink_change};
+ghost use Rattle.flatflash.specs.Ending.{Tells, input_status, loaded, ran, refusal_status, refused, session_text, sessions_text, settings_status, sink_change, summaries_text, summary_text};
 
-use crate::outcome::{BAD_INPUT, DONE, NO_MEMORY, Outcome, READ_FAULT, USAGE, WRITE_FAULT};
+use crate::lines::line_of;
+use crate::outcome::{
+    BAD_INPUT, BAD_SETTINGS, DONE, NO_MEMORY, Outcome, READ_FAULT, USAGE, WRITE_FAULT,
+};
 use crate::refusal::Refusal;
 use crate::session::Session;
+use ff_input::BadInput;
 use ff_io::{Failed, Sink};
-use ff_report::{Line, write_history};
+use ff_report::{write_run, write_run_summary};
+use ff_settings::BadSettings;
 use std::alloc::Global;
 
 /// Writes the text of a refusal, and answers its status. For want of memory nothing is written.
 pub fn tell_refusal<K: Sink>(alloc: Global, sink: &mut K, refusal: Refusal) -> Outcome
-    ensures { Tells (sink_change K.written K.faults sink.old sink.new) (Err refusal)
+    ensures { Tells (sink_change K.written K.faults sink.old sink.new) (refused refusal)
         result.status result.sessions.items }
 {
     let sessions = Vec::new(alloc);
-    if refusal == Refusal::NoMemory {
-        return Outcome {
-            status: NO_MEMORY,
-            sessions,
-        };
+    let status = status_of(refusal);
+    if status == NO_MEMORY {
+        return Outcome { status, sessions };
     }
     let status = match sink.write(line_of(refusal).as_slice()) {
-        Ok(()) => status_of(refusal),
+        Ok(()) => status,
         Err(Failed) => WRITE_FAULT,
     };
     Outcome { status, sessions }
@@ -32,7 +35,7 @@ pub fn tell_refusal<K: Sink>(alloc: Global, sink: &mut K, refusal: Refusal) -> O
 /// Writes the texts of the sessions, and answers with them.
 pub fn tell_sessions<K: Sink>(sink: &mut K, sessions: Vec<Session>) -> Outcome
     requires { vec_len sessions < 2 ^ 32 }
-    ensures { Tells (sink_change K.written K.faults sink.old sink.new) (Ok sessions.items)
+    ensures { Tells (sink_change K.written K.faults sink.old sink.new) (ran sessions.items)
         result.status result.sessions.items }
 {
     let status = match write_sessions(sink, &sessions) {
@@ -48,7 +51,7 @@ fn write_sessions<K: Sink>(sink: &mut K, sessions: &[Session]) -> Result<(), Fai
         (K.faults sink.old) (K.faults sink.new) (sessions_text 0 sessions.now) }
 {
     for (at, session) in sessions.iter().enumerate() {
-        match write_history(sink, at as u32, session.account.history()) {
+        match write_one(sink, at as u32, session) {
             Ok(()) => {}
             Err(failed) => return Err(failed),
         }
@@ -56,34 +59,90 @@ fn write_sessions<K: Sink>(sink: &mut K, sessions: &[Session]) -> Result<(), Fai
     Ok(())
 }
 
+fn write_one<K: Sink>(sink: &mut K, at: u32, session: &Session) -> Result<(), Failed>
+    ensures { Wrote result (K.written sink.old) (K.written sink.new)
+        (K.faults sink.old) (K.faults sink.new) (session_text at session.now) }
+{
+    let account = &session.account;
+    write_run(
+        sink,
+        at,
+        account.history(),
+        &account.log().turn_counts(),
+        account.counts(),
+    )
+}
+
+/// Writes the summaries of the sessions of a number's rows, and answers with them.
+pub fn tell_summary<K: Sink>(sink: &mut K, number: u32, sessions: Vec<Session>) -> Outcome
+    ensures { Tells (sink_change K.written K.faults sink.old sink.new)
+        (loaded number sessions.items) result.status result.sessions.items }
+{
+    let status = match write_summaries(sink, number, &sessions) {
+        Ok(()) => DONE,
+        Err(Failed) => WRITE_FAULT,
+    };
+    Outcome { status, sessions }
+}
+
+fn write_summaries<K: Sink>(sink: &mut K, number: u32, sessions: &[Session]) -> Result<(), Failed>
+    ensures { Wrote result (K.written sink.old) (K.written sink.new)
+        (K.faults sink.old) (K.faults sink.new) (summaries_text number sessions.now) }
+{
+    for session in sessions {
+        match summarize(sink, number, session) {
+            Ok(()) => {}
+            Err(failed) => return Err(failed),
+        }
+    }
+    Ok(())
+}
+
+fn summarize<K: Sink>(sink: &mut K, number: u32, session: &Session) -> Result<(), Failed>
+    ensures { Wrote result (K.written sink.old) (K.written sink.new)
+        (K.faults sink.old) (K.faults sink.new) (summary_text number session.now) }
+{
+    let account = &session.account;
+    write_run_summary(
+        sink,
+        number,
+        account.history(),
+        &account.log().turn_counts(),
+        account.counts(),
+    )
+}
+
 fn status_of(refusal: Refusal) -> u8
     ensures { result ≡ refusal_status refusal }
 {
     match refusal {
-        Refusal::Usage => USAGE,
-        Refusal::TooLong => BAD_INPUT,
-        Refusal::NoSeparator => BAD_INPUT,
-        Refusal::BadRow(_) => BAD_INPUT,
-        Refusal::ReadFault => READ_FAULT,
         Refusal::NoMemory => NO_MEMORY,
+        Refusal::Usage => USAGE,
+        Refusal::Input(why) => input_status(why),
     }
 }
 
-fn line_of(refusal: Refusal) -> Line
-    ensures { result ≡ refusal_text refusal }
+fn input_status(why: BadInput) -> u8
+    ensures { result ≡ input_status why }
 {
-    let mut line = Line::new();
-    match refusal {
-        Refusal::Usage => line.text(b"usage: flatflash schedule, threads or load N\n"),
-        Refusal::ReadFault => line.text(b"read fault\n"),
-        Refusal::TooLong => line.text(b"trace: too long\n"),
-        Refusal::NoSeparator => line.text(b"trace: no separator\n"),
-        Refusal::BadRow(number) => {
-            line.text(b"trace: row ");
-            line.number(number);
-            line.text(b"\n");
-        }
-        Refusal::NoMemory => {}
+    match why {
+        BadInput::NoMemory => NO_MEMORY,
+        BadInput::ReadFault => READ_FAULT,
+        BadInput::TooLong => BAD_INPUT,
+        BadInput::NoSeparator => BAD_INPUT,
+        BadInput::BadSettings(why) => settings_status(why),
+        BadInput::BadRow(_) => BAD_INPUT,
     }
-    line
+}
+
+fn settings_status(why: BadSettings) -> u8
+    ensures { result ≡ settings_status why }
+{
+    match why {
+        BadSettings::NoMemory => NO_MEMORY,
+        BadSettings::Text => BAD_SETTINGS,
+        BadSettings::Key => BAD_SETTINGS,
+        BadSettings::Kind(_) => BAD_SETTINGS,
+        BadSettings::Bound(_) => BAD_SETTINGS,
+    }
 }

@@ -1,5 +1,8 @@
 // How a session ends.
 ghost use Rattle.std.specs.Prelude.{◌≡◌};
+ghost use Rattle.ff_policy.specs.Policy.{IsPolicySound};
+ghost use Rattle.ff_store.specs.PageStore.{IsStoreSound};
+ghost use Rattle.ff_core.specs.Account.{IsAccountOf, start_of};
 ghost use Rattle.ff_core.specs.CoreSound.{IsCoreSound};
 ghost use Rattle.ff_core.specs.Hierarchy.{flash_under};
 ghost use Rattle.ff_core.specs.Record.{record_of};
@@ -24,15 +27,27 @@ pub struct Ended<F: Flash, T: Tune, E: Pick> {
 
 impl<F: Flash, T: Tune, E: Pick> Core<F, T, E> {
     /// Ends the session. What is cached or waits is lost.
-    #[tactic(auto, using(crate::proofs::Ending::record_sound))]
+    #[tactic(auto, using(crate::proofs::Ending::record_sound, crate::proofs::Ending::account_of))]
     pub fn finish(self) -> Ended<F, T, E>
         ensures base { result.base ≡ self.opening.base }
         ensures account { result.account ≡ record_of self }
         ensures flash { F.state result.flash ≡ flash_under self.hierarchy }
         ensures tuner { result.tuner ≡ self.hierarchy.policy.tuner }
         ensures picker { result.picker ≡ self.hierarchy.evictor.picker }
+        ensures good { IsAccountOf self.geometry self.hierarchy.policy.tuner.floor (start_of self)
+            result.account (F.state result.flash) }
     {
+        self.ledgers_known();
         end(self.state)
+    }
+
+    // What the store and the policy of every core keep. For the prover alone.
+    fn ledgers_known(&self)
+        ensures store { IsStoreSound self.now.hierarchy.device.store }
+        ensures policy { IsPolicySound self.now.hierarchy.policy }
+    {
+        self.state.hierarchy.device.store().known();
+        self.state.hierarchy.policy.known();
     }
 }
 

@@ -1,7 +1,8 @@
 // The choices of the background turns, and what is done for a call that missed.
 ghost use Rattle.std.specs.Prelude.{◌≡◌, ◌<◌, ℕ, length, MatchOption, IsTrue, ◌↔◌};
 ghost use Rattle.ff_evict.specs.Evictor.{IsHandInside};
-ghost use Rattle.ff_core.specs.Choices.{CollectChoice, DrainChoice, EvictChoice, IsChoice, IsLeastPromotable, IsNextSlot, IsNoneMoving, IsPromotable, PromoteChoice};
+ghost use Rattle.ff_policy.specs.Counters.{AreCounted};
+ghost use Rattle.ff_core.specs.Choices.{CollectChoice, DrainChoice, EvictChoice, IsChoice, IsLeastAmong, IsLeastPromotable, IsLesser, IsNextSlot, IsNoneMoving, IsPromotable, PromoteChoice};
 ghost use Rattle.ff_core.specs.Misses.{IsActionAtRest, IsMarkAction, IsMissAction, MissesPage, action_in_flight};
 ghost use Rattle.ff_plb.specs.Plb.{HasEntry, IsInUse};
 ghost use Rattle.ff_plb.specs.declared.slot.Slot.{Slot};
@@ -63,7 +64,8 @@ impl<F: Flash, T: Tune, E: Pick> Hierarchy<F, T, E> {
         self.policy.is_hot(page) && self.memory.can_promote(&self.device, page)
     }
 
-    // The least hot page that may come in.
+    // The least hot page that may come in. Only a page whose counter isn't zero is hot.
+    #[tactic(auto, using(crate::proofs::Promotable::promotable_of))]
     fn promotable(&self) -> Option<PageNo>
         requires counters { length self.now.policy.counters ≡ length self.now.memory.table.homes }
         ensures { MatchOption result ((page : ℕ) → IsPromotable self.now page → ⊥)
@@ -72,12 +74,36 @@ impl<F: Flash, T: Tune, E: Pick> Hierarchy<F, T, E> {
         if self.memory.frames().is_full() || self.memory.plb().free_slot().is_none() {
             return None;
         }
-        for page in 0..self.memory.table().pages() {
-            if self.is_promotable(PageNo(page)) {
-                return Some(PageNo(page));
-            }
+        self.policy.known();
+        self.least_of(self.policy.counted())
+    }
+
+    // The least of these pages that is hot and may come in.
+    #[tactic(auto, using(crate::proofs::Promotable::counted_within, crate::proofs::Promotable::least_more))]
+    fn least_of(&self, pages: &[PageNo]) -> Option<PageNo>
+        requires counters { length self.now.policy.counters ≡ length self.now.memory.table.homes }
+        requires counted { AreCounted self.now.policy.counters pages.now }
+        ensures { IsLeastAmong self.now pages.now result }
+    {
+        let mut least = None;
+        for page in pages {
+            least = self.lesser(least, *page);
         }
-        None
+        least
+    }
+
+    fn lesser(&self, least: Option<PageNo>, page: PageNo) -> Option<PageNo>
+        requires page { page.0 < length self.now.memory.table.homes }
+        requires counters { length self.now.policy.counters ≡ length self.now.memory.table.homes }
+        ensures { IsLesser self.now least page result }
+    {
+        if !self.is_promotable(page) {
+            return least;
+        }
+        match least {
+            Some(other) => { if other.0 <= page.0 { least } else { Some(page) } }
+            None => Some(page),
+        }
     }
 
     fn evict_choice(&self) -> Option<Action>

@@ -1,0 +1,26 @@
+-- What a background turn leaves of a session, and that the log has it.
+use Rattle.std.specs.Prelude.{ℕ, ◌+◌, ◌≤◌, ◌≡◌, false}
+use Rattle.ff_model.specs.declared.counts.Kind.{Kind}
+use Rattle.ff_core.specs.Backs.{turned_now, with_logged}
+use Rattle.ff_core.specs.Core.{CoreView}
+use Rattle.ff_core.specs.Drives.{SameSession}
+use Rattle.ff_core.specs.Hierarchy.{flash_under}
+use Rattle.ff_core.specs.declared.log.Back.{Back}
+use Rattle.ff_core.specs.declared.log.Back.TheVariants.{Off}
+
+-- the log has the turn; or the power is off, and the log is as before
+pub data IsLogged {T E : Type 0} (old : CoreView T E) (kind : Kind) (back : Back) (new : CoreView T E)
+    : Type 0 where
+  made : new.log ≡ with_logged (turned_now old kind back) old.log → IsLogged old kind back new
+  cut : back ≡ Off → new.log ≡ old.log → (flash_under new.hierarchy).on ≡ false
+      → IsLogged old kind back new
+
+-- one event of a background turn
+pub record IsBackEvent {T E : Type 0} (old : CoreView T E) (kind : Kind) (back : Back)
+    (new : CoreView T E) : Type 0 where
+  pub logged : IsLogged old kind back new
+  pub history : new.history ≡ old.history
+  pub same : SameSession old new
+  pub events : new.events ≤ old.events + 1
+  pub no_fall : (flash_under old.hierarchy).operations ≤ (flash_under new.hierarchy).operations
+  pub one_more : (flash_under new.hierarchy).operations ≤ (flash_under old.hierarchy).operations + 1

@@ -1,0 +1,78 @@
+-- The rows that a number makes are run, and not too many.
+use Rattle.std.proofs.Common.{◌≡◌, ◌+◌, ◌*◌, ◌<◌, ◌≤◌, ◌^◌, ℕ, zero, suc, Bool, true, false, List, [], ◌∷◌, ◌++◌, length, refl, sym, ap, ◌∙◌, arith, length-append}
+use Rattle.std.specs.Prelude.{◌==◌, ◌%◌, if◌then◌else◌, All, sum_by}
+use Rattle.std.specs.List.{enumerate_from, flat_map}
+use Rattle.std.proofs.lemmas.Bool.{cases_Bool, lt-ltb}
+use Rattle.std.proofs.lemmas.List.Elements.{All-append}
+use Rattle.std.proofs.lemmas.List.Sums.{sum_by-append}
+use Rattle.ff_gen.specs.Calls.{calls_from}
+use Rattle.ff_gen.specs.Generated.{generated, mark_rows, rows_at, turn_rows, turns_behind}
+use Rattle.ff_input.specs.Asking.{AreRun, is_run, turns_asked, turns_in_row}
+use Rattle.ff_model.specs.declared.op.Op.{Op}
+use Rattle.ff_trace.specs.declared.row.Row.{Row}
+use Rattle.ff_trace.specs.declared.row.Row.TheVariants.{Call}
+use Rattle.ff_model.specs.declared.op.Op.TheVariants.{Verify}
+
+-- the rows are run, at most so many, and ask for at most so many turns
+record AreFew (rows : List Row) (most turns : ℕ) : Type 0 where
+  run : AreRun rows
+  few : length rows ≤ most
+  turns_few : turns_asked rows ≤ turns
+
+both : (xs ys : List Row) (m n t u : ℕ) → AreFew xs m t → AreFew ys n u → AreFew (xs ++ ys) (m + n) (t + u)
+both xs ys m n t u first second =
+    let size = length-append xs ys in
+    let turns = sum_by-append turns_in_row xs ys in
+    let few = first.few in
+    let more = second.few in
+    let some = first.turns_few in
+    let others = second.turns_few in
+    record { run = All-append (λ (row : Row). is_run row ≡ true) xs ys first.run second.run; few = omega arith; turns_few = omega arith }
+
+behind : (fits : Bool) → AreFew (if fits then turn_rows else []) 4 108
+behind true = record { run = (refl, refl, refl, refl, tt); few = omega arith; turns_few = omega arith }
+behind false = record { run = tt; few = omega arith; turns_few = omega arith }
+
+called : (number : ℕ) → is_run (Call (record { 0 = number % 4 }) Verify) ≡ true
+called number = let small : number % 4 < 64 = omega arith in lt-ltb (number % 4) 64 small
+
+at_few : (number : ℕ) (op : Op) → AreFew (rows_at (number, op)) 5 108
+at_few number op = both (Call (record { 0 = number % 4 }) op ∷ []) (turns_behind number) 1 4 0 108
+    (record { run = (called number, tt); few = omega arith; turns_few = omega arith }) (behind (number % 16 == 15))
+
+calls_few : (at : ℕ) (ops : List Op) → AreFew (flat_map rows_at (enumerate_from at ops)) (5 * length ops) (108 * length ops)
+calls_few at [] = record { run = tt; few = omega arith; turns_few = omega arith }
+calls_few at (op ∷ ops) =
+    let here = at_few at op in
+    let later = calls_few (at + 1) ops in
+    let whole = both (rows_at (at, op)) (flat_map rows_at (enumerate_from (at + 1) ops)) 5 (5 * length ops) 108 (108 * length ops) here later in
+    let few = whole.few in
+    let turns = whole.turns_few in
+    record { run = whole.run; few = omega arith; turns_few = omega arith }
+
+calls_many : (count state : ℕ) → length (calls_from count state) ≡ count
+unfolding calls_from
+calls_many zero state = refl
+calls_many (suc count) state = ap suc (calls_many count _)
+
+pub generated_few : (number : ℕ) → AreFew (generated number) 100004 2160000
+unfolding generated
+generated_few number =
+    let ops = calls_from 20000 number in
+    let many = calls_many 20000 number in
+    let marks : AreFew mark_rows 4 0 = record { run = (refl, refl, refl, refl, tt); few = omega arith; turns_few = omega arith } in
+    let whole = both mark_rows (flat_map rows_at (enumerate_from 0 ops)) 4 (5 * length ops) 0 (108 * length ops) marks (calls_few 0 ops) in
+    let few = whole.few in
+    let turns = whole.turns_few in
+    record { run = whole.run; few = omega arith; turns_few = omega arith }
+
+pub generated_run : (number : ℕ) → AreRun (generated number)
+generated_run number = (generated_few number).run
+
+pub generated_rows : (number : ℕ) → length (generated number) ≤ 262144
+generated_rows number = let few = (generated_few number).few in omega arith
+
+pub generated_turns : (number : ℕ) → turns_asked (generated number) < 2 ^ 22
+generated_turns number = let few = (generated_few number).turns_few in omega arith
+
+pub ruleset generated_fits = (generated_run, generated_rows, generated_turns)
