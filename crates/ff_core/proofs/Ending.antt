@@ -1,5 +1,5 @@
 -- What the record of a session keeps.
-use Rattle.std.proofs.Common.{◌≡◌, ◌≤◌, ◌*◌, ℕ, subst, refl, sym, ap, ◌∙◌, arith}
+use Rattle.std.proofs.Common.{◌≡◌, ◌≤◌, ◌+◌, ◌*◌, ℕ, mul_comm, subst, refl, sym, ap, ◌∙◌, arith}
 use Rattle.ff_model.specs.Legal.{IsLegal, Opening, next_event}
 use Rattle.ff_policy.specs.Policy.{IsPolicySound}
 use Rattle.ff_store.specs.PageStore.{IsStoreSound}

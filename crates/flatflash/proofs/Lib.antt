@@ -1,7 +1,7 @@
 pub mod Generated
+pub mod MadeRows
 pub mod Making
 pub mod Numbers
-pub mod Rows
 pub mod Sessions
 pub mod Told
 pub mod Work

@@ -17,7 +17,7 @@ use ff_policy::Tune;
 use ff_trace::{CALLERS, Row};
 
 /// Makes the calls and turns of the rows in their order. Each caller's calls are numbered from 0.
-#[tactic(auto, using(crate::proofs::Rows::opened_none, crate::proofs::Rows::made_of))]
+#[tactic(auto, using(crate::proofs::MadeRows::opened_none, crate::proofs::MadeRows::made_of))]
 pub fn make_rows<F: Flash, T: Tune, E: Pick>(core: &mut Core<F, T, E>, rows: &[Row])
     requires run { AreRun rows.now }
     requires powered { IsPowered core.old }
@@ -31,7 +31,7 @@ pub fn make_rows<F: Flash, T: Tune, E: Pick>(core: &mut Core<F, T, E>, rows: &[R
 }
 
 // The same, over the numbers of the callers' next calls.
-#[tactic(auto, using(crate::proofs::Making::went_none, crate::proofs::Rows::rows_all, crate::proofs::Rows::rows_more, crate::proofs::Rows::room_row, crate::proofs::Rows::run_at))]
+#[tactic(auto, using(crate::proofs::Making::went_none, crate::proofs::MadeRows::rows_all, crate::proofs::MadeRows::rows_more, crate::proofs::MadeRows::room_row, crate::proofs::MadeRows::run_at))]
 fn make_each<F: Flash, T: Tune, E: Pick>(
     core: &mut Core<F, T, E>,
     numbers: &mut [u32],
