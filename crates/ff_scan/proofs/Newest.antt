@@ -222,7 +222,7 @@ blank_at count page = elim (cases_lt page count) [
 ]
 
 both_zero : (block : ℕ) → outside blank_top block ≡ 0
-both_zero block = elim (cases_Bool (eqb 0 block)) [ | inl same ↦ rw same refl | inr other ↦ rw other refl ]
+both_zero block = elim (cases_Bool (eqb 0 block)) [ inl same ↦ rw same refl | inr other ↦ rw other refl ]
 
 -- over no place
 pub tops_none : (per : ℕ) (probes : List Probe) (count : ℕ) (tops : List Top) → tops ≡ replicate count blank_top

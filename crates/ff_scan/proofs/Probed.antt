@@ -57,10 +57,10 @@ first_stop-add plan made (suc n) m =
     ∙ ap (λ (o : Option FlashStop). option_or (due_stop plan (made + 1)) o) (first_stop-add plan (made + 1) n m)
     ∙ or_or (due_stop plan (made + 1)) (first_stop plan (made + 1) n) (first_stop plan (made + 1 + n) m)
     ∙ ap (λ (k : ℕ). option_or (first_stop plan made (suc n)) (first_stop plan k m)) start
-    where
-      or_or : (a b c : Option FlashStop) → option_or a (option_or b c) ≡ option_or (option_or a b) c
-      or_or None b c = refl
-      or_or (Some x) b c = refl
+  where
+    or_or : (a b c : Option FlashStop) → option_or a (option_or b c) ≡ option_or (option_or a b) c
+    or_or None b c = refl
+    or_or (Some x) b c = refl
 
 -- all of the first were no stop of the plan, and so is one more as it went
 planned_step : (told : Option Planned) (made count : ℕ) (stop : Option FlashStop)

@@ -38,11 +38,11 @@ fn place_one(
     requires placed { ArePlaced geometry.now probes.now spare.0 block.0 space.old }
     ensures { ArePlaced geometry.now probes.now spare.0 (block.0 + 1) space.new }
 {
-    let next = used(probes, geometry, block);
+    let write_place = used(probes, geometry, block);
     if block == spare {
-        set_spare(space, block, next);
+        set_spare(space, block, write_place);
     } else {
-        space.set_place(block, next);
+        space.set_place(block, write_place);
     }
 }
 
@@ -73,7 +73,6 @@ fn used(probes: &[Probe], geometry: &Geometry, block: Block) -> u32
     }
     next
 }
-
 
 fn used_more(probes: &[Probe], geometry: &Geometry, block: Block, page: u32, next: u32) -> u32
     requires limits { IsWithinLimits geometry.now }

@@ -7,9 +7,9 @@ mod covered;
 mod mapping;
 mod probing;
 mod scan;
-mod tops;
-mod version;
 #[cfg(test)]
 mod tests;
+mod tops;
+mod version;
 
 pub use scan::{Found, Scan};

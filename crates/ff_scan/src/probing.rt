@@ -35,11 +35,7 @@ pub fn probe_all<F: Flash>(
     Ok(())
 }
 
-fn probe_one<F: Flash>(
-    flash: &mut F,
-    place: u32,
-    probes: &mut Vec<Probe>,
-) -> Result<(), FlashStop>
+fn probe_one<F: Flash>(flash: &mut F, place: u32, probes: &mut Vec<Probe>) -> Result<(), FlashStop>
     requires on { (F.state flash.old).on ≡ true }
     requires uncut { (F.state flash.old).cut ≡ false }
     requires place { place < length (F.state flash.old).cells }

@@ -55,7 +55,7 @@ pub struct Found {
     pub spare: Block,
 }
 
-fn blank_tops(alloc: Global, pages: u32) -> Result<Vec<Top>, NoMemory>
+pub(crate) fn blank_tops(alloc: Global, pages: u32) -> Result<Vec<Top>, NoMemory>
     ensures { IfOk result (λ tops. tops.items ≡ replicate pages blank_top) }
 {
     let blank = Top {
@@ -127,7 +127,7 @@ impl Scan {
 
 // Records in an empty table and an empty map what the probes tell, and finds the spare block.
 #[tactic(auto, using(crate::proofs::Newest::tops_none, crate::proofs::Placing::placed_none, crate::proofs::Mappings::mapped_none, crate::proofs::Mappings::scan_of))]
-fn find(
+pub(crate) fn find(
     probes: &[Probe],
     geometry: &Geometry,
     tops: &mut [Top],

@@ -13,12 +13,11 @@ returns-in-Sealed c =
     let count = c.requires.pages in
     let page_in = c.requires.probes.page c.args.place spare c.in-Sealed.is in
     let newest : c.outside-newest.result ≡ newest_outside per probes (c.args.place / per) spare.page.0 (length probes) =
-    c.outside-newest.ensures ∙ c.requires.tops.newest spare.page.0 (c.args.place / per) (omega arith) in
-    (
+    c.outside-newest.ensures ∙ c.requires.tops.newest spare.page.0 (c.args.place / per) (omega arith) in (
       λ covers.
-        (let most = leb-true _ _ covers in
-        backed_of c.args.geometry.now probes c.args.place spare c.requires.probes c.in-Sealed.is (omega arith)),
+          (let most = leb-true _ _ covers in
+          backed_of c.args.geometry.now probes c.args.place spare c.requires.probes c.in-Sealed.is (omega arith)),
       λ backed.
-        (let most = backed_most per probes c.args.place spare backed c.in-Sealed.is in
-        le-leb spare.version c.outside-newest.result (omega arith))
+          (let most = backed_most per probes c.args.place spare backed c.in-Sealed.is in
+          le-leb spare.version c.outside-newest.result (omega arith)),
     )
