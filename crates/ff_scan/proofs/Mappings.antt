@@ -1,6 +1,6 @@
 -- The map of the newest pages outside the spare block, place by place.
 use Rattle.std.proofs.Common.{◌≡◌, ◌≢◌, ◌<◌, ◌≤◌, ◌+◌, ◌-◌, ◌*◌, ◌/◌, ℕ, Bool, true, false, cond, eqb, List, length, set, get_or, Option, None, Some, inl, inr, refl, sym, ap, subst, ◌∙◌, arith}
-use Rattle.std.specs.Prelude.{option_map, replicate, count_by, sum_by}
+use Rattle.std.specs.Prelude.{option_map, replicate}
 use Rattle.std.proofs.lemmas.Bool.{cases_Bool, cases_eq, cases_lt, eq-eqb, ne_eqb}
 use Rattle.std.proofs.lemmas.List.{get_or-replicate, get_or-set_other, get_or-set_same, get_or_past, length-replicate, length-set}
 use Rattle.std.proofs.lemmas.List.Folds.{sum_by-replicate}
@@ -19,12 +19,12 @@ use Rattle.ff_space.specs.BlockTable.{TableView, block_at, changed_at}
 use Rattle.ff_space.specs.Choices.{IsLeast}
 use Rattle.ff_space.specs.declared.block.BlockEntry.{BlockEntry}
 use Rattle.ff_space.specs.declared.block.BlockState.TheVariants.{Erased as ErasedBlock, Open, Full, Waiting}
-use Rattle.ff_map.specs.PageMap.{IsFreeBut, IsOwner, MapView, empty_map, mapping_of, with_mapping}
+use Rattle.ff_map.specs.PageMap.{IsFreeBut, MapView, empty_map, mapping_of, with_mapping}
 use Rattle.ff_map.specs.declared.places.Mapping.{Mapping}
-use Rattle.ff_scan.proofs.Covering.{block_of, place_below, place_from, place_is}
+use Rattle.ff_scan.proofs.Covering.{place_below, place_from}
 use Rattle.ff_scan.proofs.Newest.{newest_most, newest_there, same_page, same_spare, sealed_within}
 use Rattle.ff_scan.specs.Covered.{IsCoveredBlock}
-use Rattle.ff_scan.specs.Found.{IsFoundBlock, IsFoundPage, IsNewest, IsNextVersion, IsOutside, IsScan, found_state, lies_in, mapped_in}
+use Rattle.ff_scan.specs.Found.{IsFoundBlock, IsFoundPage, IsNewest, IsNextVersion, IsOutside, IsScan, lies_in, mapped_in}
 use Rattle.ff_scan.specs.Mapped.{AreMapped, IsTop}
 use Rattle.ff_scan.specs.Placed.{ArePlaced}
 use Rattle.ff_scan.specs.Probes.{AreProbes, probe_at}

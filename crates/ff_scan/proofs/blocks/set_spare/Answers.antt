@@ -1,6 +1,5 @@
 -- The block is changed twice.
-use Rattle.std.proofs.Common.{◌≡◌, ◌<◌, false, true, eqb, ap, ◌∙◌, sym, arith}
-use Rattle.std.proofs.lemmas.Bool.{ne_eqb}
+use Rattle.std.proofs.Common.{ap, ◌∙◌}
 use Rattle.ff_space.specs.Blocks.{block_placed, waiting}
 use Rattle.ff_space.specs.BlockTable.{TableView, changed_at}
 use Rattle.ff_scan.proofs.Placing.{changed_twice, spare_entry}

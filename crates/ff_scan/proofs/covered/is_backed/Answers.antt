@@ -1,5 +1,5 @@
 -- The newest version outside the block is what the tops say.
-use Rattle.std.proofs.Common.{◌≡◌, ◌≤◌, ◌<◌, ◌/◌, length, ◌∙◌, arith}
+use Rattle.std.proofs.Common.{◌≡◌, ◌/◌, length, ◌∙◌, arith}
 use Rattle.std.proofs.lemmas.Bool.{le-leb, leb-true}
 use Rattle.ff_scan.proofs.Covering.{backed_most, backed_of}
 use Rattle.ff_scan.specs.Tops.{newest_outside}

@@ -1,5 +1,5 @@
 -- Each probe was looked at.
-use Rattle.std.proofs.Common.{◌<◌, length, below_more, rules, arith}
+use Rattle.std.proofs.Common.{below_more, rules, arith}
 use Rattle.ff_scan.proofs.Newest.{sealed_within}
 use Rattle.ff_scan.proofs.tests.are_probes.Goals as goal
 

@@ -1,4 +1,3 @@
-use Rattle.std.proofs.Common.{◌≡◌, length}
 use Rattle.ff_scan.specs.Tops.{AreTops}
 use Rattle.ff_scan.proofs.tops.find_tops.Given as goal
 
