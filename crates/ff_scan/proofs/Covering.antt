@@ -9,14 +9,14 @@ use Rattle.ff_flash.specs.declared.flash.Probe.TheVariants.{Sealed}
 use Rattle.ff_flash.specs.declared.spare.Spare.{Spare}
 use Rattle.ff_space.specs.Choices.{IsLeast}
 use Rattle.ff_scan.proofs.Newest.{newest_most, newest_there, same_page, same_spare, sealed_within}
-use Rattle.ff_scan.specs.Covered.{IsBacked, IsBackedAt, IsCovered, IsCoveredBlock}
+use Rattle.ff_scan.specs.Covered.{IsSpareBacked, IsPlaceBacked, IsCoveredByProbes, IsCoveredBlock}
 use Rattle.ff_scan.specs.Probes.{AreProbes, probe_at}
 use Rattle.ff_scan.specs.Tops.{newest_outside}
 
 backed_one : (g : Geometry) (probes : List Probe) (block at : ℕ) (spare : Spare) → AreProbes g probes
     → probe_at probes at ≡ Sealed spare
     → spare.version ≤ newest_outside g.per_block probes block spare.page.0 (length probes)
-    → IsBacked g.per_block probes block spare
+    → IsSpareBacked g.per_block probes block spare
 backed_one g probes block at spare are is most =
     let least = are.least at spare is in
     let there = newest_there g.per_block probes block spare.page.0 (length probes) (omega arith) in
@@ -33,7 +33,7 @@ backed_one g probes block at spare are is most =
 pub backed_of : (g : Geometry) (probes : List Probe) (at : ℕ) (spare : Spare) → AreProbes g probes
     → probe_at probes at ≡ Sealed spare
     → spare.version ≤ newest_outside g.per_block probes (at / g.per_block) spare.page.0 (length probes)
-    → IsBackedAt g.per_block probes at
+    → IsPlaceBacked g.per_block probes at
 backed_of g probes at spare are is most other also =
     let same = same_spare (probe_at probes at) spare other is also in
     let kept : other.version ≤ newest_outside g.per_block probes (at / g.per_block) other.page.0 (length probes) =
@@ -41,7 +41,7 @@ backed_of g probes at spare are is most other also =
     backed_one g probes (at / g.per_block) at other are also kept
 
 -- and one that is backed isn't newer
-pub backed_most : (per : ℕ) (probes : List Probe) (at : ℕ) (spare : Spare) → IsBackedAt per probes at
+pub backed_most : (per : ℕ) (probes : List Probe) (at : ℕ) (spare : Spare) → IsPlaceBacked per probes at
     → probe_at probes at ≡ Sealed spare
     → spare.version ≤ newest_outside per probes (at / per) spare.page.0 (length probes)
 backed_most per probes at spare backed is =
@@ -80,25 +80,25 @@ block_end per block blocks below =
 
 -- a block is covered where each of its places is backed
 pub covered_of : (per : ℕ) (probes : List Probe) (block : ℕ) → 0 < per
-    → ((place : ℕ) → block * per ≤ place → place < block * per + per → IsBackedAt per probes place)
-    → IsCovered per probes block
+    → ((place : ℕ) → block * per ≤ place → place < block * per + per → IsPlaceBacked per probes place)
+    → IsCoveredByProbes per probes block
 covered_of per probes block some all place lies =
     all place (place_from per place block lies) (place_below per place block some lies)
 
 -- the places so far and one more are backed
 pub backed_more : (per : ℕ) (probes : List Probe) (first place : ℕ)
-    → ((p : ℕ) → first ≤ p → p < place → IsBackedAt per probes p) → IsBackedAt per probes place
-    → (p : ℕ) → first ≤ p → p < place + 1 → IsBackedAt per probes p
+    → ((p : ℕ) → first ≤ p → p < place → IsPlaceBacked per probes p) → IsPlaceBacked per probes place
+    → (p : ℕ) → first ≤ p → p < place + 1 → IsPlaceBacked per probes p
 backed_more per probes first place earlier here p from below = elim (cases_lt p place) [
   | inl lower ↦ earlier p from lower
   | inr last ↦
       (let same : place ≡ p = omega arith in
-      subst (λ (n : ℕ). IsBackedAt per probes n) same here)
+      subst (λ (n : ℕ). IsPlaceBacked per probes n) same here)
 ]
 
 -- the first blocks aren't covered, and this one is
 pub least_here : (g : Geometry) (probes : List Probe) (block : ℕ) → block < g.blocks
-    → ((b : ℕ) → b < block → IsCoveredBlock g probes b → ⊥) → IsCovered g.per_block probes block
+    → ((b : ℕ) → b < block → IsCoveredBlock g probes b → ⊥) → IsCoveredByProbes g.per_block probes block
     → IsLeast (IsCoveredBlock g probes) block
 least_here g probes block below none covered = record {
   has = record { in_range = below; covered = covered };
@@ -110,11 +110,11 @@ least_here g probes block below none covered = record {
 
 -- the first blocks and one more aren't covered
 pub none_more : (g : Geometry) (probes : List Probe) (block : ℕ)
-    → ((b : ℕ) → b < block → IsCoveredBlock g probes b → ⊥) → (IsCovered g.per_block probes block → ⊥)
+    → ((b : ℕ) → b < block → IsCoveredBlock g probes b → ⊥) → (IsCoveredByProbes g.per_block probes block → ⊥)
     → (b : ℕ) → b < block + 1 → IsCoveredBlock g probes b → ⊥
 none_more g probes block none other b below is = elim (cases_lt b block) [
   | inl lower ↦ none b lower is
   | inr last ↦
       (let same : b ≡ block = omega arith in
-      other (subst (λ (n : ℕ). IsCovered g.per_block probes n) same is.covered))
+      other (subst (λ (n : ℕ). IsCoveredByProbes g.per_block probes n) same is.covered))
 ]

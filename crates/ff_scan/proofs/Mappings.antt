@@ -24,25 +24,25 @@ use Rattle.ff_map.specs.declared.places.Mapping.{Mapping}
 use Rattle.ff_scan.proofs.Covering.{place_below, place_from}
 use Rattle.ff_scan.proofs.Newest.{newest_most, newest_there, same_page, same_spare, sealed_within}
 use Rattle.ff_scan.specs.Covered.{IsCoveredBlock}
-use Rattle.ff_scan.specs.Found.{IsFoundBlock, IsFoundPage, IsNewest, IsNextVersion, IsOutside, IsScan, lies_in, mapped_in}
-use Rattle.ff_scan.specs.Mapped.{AreMapped, IsTop}
-use Rattle.ff_scan.specs.Placed.{ArePlaced}
+use Rattle.ff_scan.specs.Found.{IsFoundBlock, IsFoundPage, IsNewestMapping, IsNextVersion, IsOutside, IsScan, is_in, mapped_in}
+use Rattle.ff_scan.specs.Mapped.{AreTopsMapped, IsTop}
+use Rattle.ff_scan.specs.Placed.{AreBlocksPlaced}
 use Rattle.ff_scan.specs.Probes.{AreProbes, probe_at}
 use Rattle.ff_scan.specs.Tops.{newest_outside}
 
 -- a mapping at this place
-record IsAt (o : Option Mapping) (at : Ppn) : Type 0 where
+record IsMappedAt (o : Option Mapping) (at : Ppn) : Type 0 where
   mapping : Mapping
   is : o ≡ Some mapping
   there : mapping.at ≡ at
 
-at_of : (o : Option Mapping) (at : Ppn) → option_map (λ (m : Mapping). m.at) o ≡ Some at → IsAt o at
+at_of : (o : Option Mapping) (at : Ppn) → option_map (λ (m : Mapping). m.at) o ≡ Some at → IsMappedAt o at
 at_of None at is = absurd (none-some at is)
 at_of (Some m) at is = record { mapping = m; is = refl; there = same_Some m.at at is }
 
 -- no page is at a place that wasn't looked at
 pub free_here : (g : Geometry) (probes : List Probe) (spare : ℕ) (at : Ppn) (page : PageNo) (table : TableView) (places : MapView)
-    → AreMapped g probes spare at.0 table places → IsFreeBut places at page
+    → AreTopsMapped g probes spare at.0 table places → IsFreeBut places at page
 free_here g probes spare at page table places are other owner =
     let one = at_of (mapping_of places other) at owner in
     let below = are.below other one.mapping one.is in
@@ -60,7 +60,7 @@ by_next_plain per next waits = elim (cases_Bool (eqb next 0)) [
 
 -- no block but the spare one waits
 pub not_waiting : (g : Geometry) (probes : List Probe) (spare count block : ℕ) (table : TableView) (places : MapView)
-    → AreMapped g probes spare count table places → block < g.blocks → block ≢ spare
+    → AreTopsMapped g probes spare count table places → block < g.blocks → block ≢ spare
     → (block_at table block).state ≢ Waiting
 not_waiting g probes spare count block table places are below other waits =
     let test : eqb spare block ≡ false = ne_eqb spare block (λ same. other (sym same)) in
@@ -77,7 +77,7 @@ block_here g probes place limits are below =
 
 -- a block has more pages before its write place than are mapped, where the next place is sealed
 pub has_room : (g : Geometry) (probes : List Probe) (spare place : ℕ) (found : Spare) (table : TableView) (places : MapView)
-    → IsWithinLimits g → AreProbes g probes → place < length probes → AreMapped g probes spare place table places
+    → IsWithinLimits g → AreProbes g probes → place < length probes → AreTopsMapped g probes spare place table places
     → probe_at probes place ≡ Sealed found
     → (block_at table (place / g.per_block)).mapped < (block_at table (place / g.per_block)).next
 has_room g probes spare place found table places limits probed below are is =
@@ -98,9 +98,9 @@ has_room g probes spare place found table places limits probed below are is =
 
 -- a place that holds nothing that is to be mapped
 pub mapped_left : (g : Geometry) (probes : List Probe) (spare place : ℕ) (table : TableView) (places : MapView)
-    → AreMapped g probes spare place table places
+    → AreTopsMapped g probes spare place table places
     → ((found : Spare) → IsTop g.per_block probes spare place found → mapping_of places found.page ≢ None)
-    → AreMapped g probes spare (place + 1) table places
+    → AreTopsMapped g probes spare (place + 1) table places
 mapped_left g probes spare place table places are known = record {
   per_block = are.per_block;
   block_count = are.block_count;
@@ -120,9 +120,9 @@ mapped_left g probes spare place table places are known = record {
 }
 
 newest_of : (g : Geometry) (probes : List Probe) (spare : ℕ) (at : Ppn) (found : Spare) (table : TableView) (places : MapView)
-    → AreMapped g probes spare at.0 table places → IsTop g.per_block probes spare at.0 found
+    → AreTopsMapped g probes spare at.0 table places → IsTop g.per_block probes spare at.0 found
     → mapping_of places found.page ≡ None
-    → IsNewest g.per_block probes spare found.page (record { at = at; version = found.version })
+    → IsNewestMapping g.per_block probes spare found.page (record { at = at; version = found.version })
 newest_of g probes spare at found table places are top none = record {
   there = top.there;
   newest = λ a other out same.
@@ -135,7 +135,7 @@ newest_of g probes spare at found table places are top none = record {
 }
 
 abbrev counts : ℕ → ℕ → Option Mapping → ℕ
-counts per block m = cond (lies_in per block m) 1 0
+counts per block m = cond (is_in per block m) 1 0
 
 -- one more page is counted in its block
 counted_more : (per block : ℕ) (places : MapView) (page : PageNo) (m : Mapping) → page.0 < length places.pages
@@ -216,9 +216,9 @@ room_after before after b block place per sum room from = elim (cases_eq block b
 
 -- a place that is mapped
 pub mapped_place : (g : Geometry) (probes : List Probe) (spare : ℕ) (at : Ppn) (found : Spare) (table : TableView) (places : MapView)
-    → IsWithinLimits g → AreProbes g probes → at.0 < length probes → AreMapped g probes spare at.0 table places
+    → IsWithinLimits g → AreProbes g probes → at.0 < length probes → AreTopsMapped g probes spare at.0 table places
     → IsTop g.per_block probes spare at.0 found → mapping_of places found.page ≡ None
-    → AreMapped g probes spare (at.0 + 1) (changed_at table (at.0 / g.per_block) mapped_more)
+    → AreTopsMapped g probes spare (at.0 + 1) (changed_at table (at.0 / g.per_block) mapped_more)
     (with_mapping places found.page (record { at = at; version = found.version }))
 mapped_place g probes spare at found table places limits probed below are top none =
     let m : Mapping = record { at = at; version = found.version } in
@@ -253,8 +253,8 @@ mapped_place g probes spare at found table places limits probed below are top no
       mapped = λ page mapping is. elim (cases_eq page.0 found.page.0) [
         | inl same ↦
             (let one = same_Some m mapping (sym (with_same places found.page page m page_within same) ∙ is) in
-            subst (λ (q : PageNo). IsNewest g.per_block probes spare q mapping) (same_page found.page page (sym same))
-            (subst (λ (x : Mapping). IsNewest g.per_block probes spare found.page x) one
+            subst (λ (q : PageNo). IsNewestMapping g.per_block probes spare q mapping) (same_page found.page page (sym same))
+            (subst (λ (x : Mapping). IsNewestMapping g.per_block probes spare found.page x) one
             (newest_of g probes spare at found table places are top none)))
         | inr other ↦ are.mapped page mapping (sym (with_other places found.page page m other) ∙ is)
       ];
@@ -274,14 +274,14 @@ mapped_place g probes spare at found table places limits probed below are top no
     }
 
 pub mapped_next : (g : Geometry) (probes : List Probe) (spare : ℕ) (at : Ppn) (found : Spare) (table new_table : TableView) (places new_places : MapView)
-    → IsWithinLimits g → AreProbes g probes → at.0 < length probes → AreMapped g probes spare at.0 table places
+    → IsWithinLimits g → AreProbes g probes → at.0 < length probes → AreTopsMapped g probes spare at.0 table places
     → IsTop g.per_block probes spare at.0 found → mapping_of places found.page ≡ None
     → new_table ≡ changed_at table (at.0 / g.per_block) mapped_more
     → new_places ≡ with_mapping places found.page (record { at = at; version = found.version })
-    → AreMapped g probes spare (at.0 + 1) new_table new_places
+    → AreTopsMapped g probes spare (at.0 + 1) new_table new_places
 mapped_next g probes spare at found table new_table places new_places limits probed below are top none table_is places_is =
-    subst (λ (t : TableView). AreMapped g probes spare (at.0 + 1) t new_places) (sym table_is)
-    (subst (λ (p : MapView). AreMapped g probes spare (at.0 + 1) (changed_at table (at.0 / g.per_block) mapped_more) p) (sym places_is)
+    subst (λ (t : TableView). AreTopsMapped g probes spare (at.0 + 1) t new_places) (sym table_is)
+    (subst (λ (p : MapView). AreTopsMapped g probes spare (at.0 + 1) (changed_at table (at.0 / g.per_block) mapped_more) p) (sym places_is)
     (mapped_place g probes spare at found table places limits probed below are top none))
 
 no_mapping : (g : Geometry) (page : PageNo) → mapping_of (empty_map g) page ≡ None
@@ -300,9 +300,9 @@ none_counted g block =
 
 -- no place was looked at
 pub mapped_none : (g : Geometry) (probes : List Probe) (spare : ℕ) (table : TableView) (places : MapView)
-    → ArePlaced g probes spare g.blocks table → places ≡ empty_map g → AreMapped g probes spare 0 table places
+    → AreBlocksPlaced g probes spare g.blocks table → places ≡ empty_map g → AreTopsMapped g probes spare 0 table places
 mapped_none g probes spare table places are is =
-    subst (λ (p : MapView). AreMapped g probes spare 0 table p) (sym is) (record {
+    subst (λ (p : MapView). AreTopsMapped g probes spare 0 table p) (sym is) (record {
       per_block = are.per_block;
       block_count = are.block_count;
       blocks = are.placed;
@@ -317,7 +317,7 @@ mapped_none g probes spare table places are is =
 
 -- a page that isn't mapped is nowhere outside the spare block
 none_outside : (g : Geometry) (probes : List Probe) (spare : ℕ) (table : TableView) (places : MapView) (page : PageNo)
-    → AreProbes g probes → AreMapped g probes spare (length probes) table places → mapping_of places page ≡ None
+    → AreProbes g probes → AreTopsMapped g probes spare (length probes) table places → mapping_of places page ≡ None
     → (at : ℕ) (found : Spare) → IsOutside g.per_block probes spare at found → found.page ≢ page
 none_outside g probes spare table places page probed are none at found out same =
     let least = probed.least at found out.is in
@@ -333,7 +333,7 @@ none_outside g probes spare table places page probed are none at found out same 
     are.unmapped one.at one.spare one.below top (ap (λ (q : PageNo). mapping_of places q) its_page ∙ none)
 
 page_found : (g : Geometry) (probes : List Probe) (spare : ℕ) (table : TableView) (places : MapView) (page : PageNo)
-    → AreProbes g probes → AreMapped g probes spare (length probes) table places
+    → AreProbes g probes → AreTopsMapped g probes spare (length probes) table places
     → (o : Option Mapping) → mapping_of places page ≡ o → IsFoundPage g.per_block probes spare page o
 page_found g probes spare table places page probed are None is =
     none_outside g probes spare table places page probed are is
@@ -342,7 +342,7 @@ page_found g probes spare table places page probed are (Some m) is = are.mapped 
 -- every place was looked at
 pub scan_of : (g : Geometry) (probes : List Probe) (spare next : ℕ) (table : TableView) (places : MapView)
     → AreProbes g probes → IsLeast (IsCoveredBlock g probes) spare
-    → AreMapped g probes spare (length probes) table places → IsNextVersion probes (length probes) next
+    → AreTopsMapped g probes spare (length probes) table places → IsNextVersion probes (length probes) next
     → IsScan g probes spare table (record places { next_version = next })
 scan_of g probes spare next table places probed least are version = record {
   spare_is = least;

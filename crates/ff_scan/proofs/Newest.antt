@@ -8,7 +8,7 @@ use Rattle.ff_flash.specs.declared.flash.Probe.{Probe}
 use Rattle.ff_flash.specs.declared.flash.Probe.TheVariants.{Erased, Spoiled, Closed, Sealed}
 use Rattle.ff_flash.specs.declared.spare.Spare.{Spare}
 use Rattle.ff_scan.specs.Probes.{probe_at}
-use Rattle.ff_scan.specs.Tops.{AreTops, IsRaised, blank_top, newest_outside, outside, top_at, version_outside, version_told}
+use Rattle.ff_scan.specs.Tops.{AreTops, IsTopRaised, blank_top, newest_outside, outside, top_at, version_outside, version_told}
 use Rattle.ff_scan.specs.declared.tops.Top.{Top}
 
 -- a page by its number
@@ -66,13 +66,13 @@ newest_most per probes block page (suc count) at spare below out is same = elim 
 ]
 
 -- a version of the page that a probe tells
-record IsTold (page version : ℕ) (probe : Probe) : Type 0 where
+record IsVersionTold (page version : ℕ) (probe : Probe) : Type 0 where
   spare : Spare
   is : probe ≡ Sealed spare
   of : spare.page.0 ≡ page
   same : spare.version ≡ version
 
-told_some : (page : ℕ) (probe : Probe) → 0 < version_told page probe → IsTold page (version_told page probe) probe
+told_some : (page : ℕ) (probe : Probe) → 0 < version_told page probe → IsVersionTold page (version_told page probe) probe
 told_some page Erased some = absurd (omega arith)
 told_some page Spoiled some = absurd (omega arith)
 told_some page Closed some = absurd (omega arith)
@@ -87,7 +87,7 @@ told_some page (Sealed spare) some = elim (cases_eq spare.page.0 page) [
 ]
 
 -- a sealed page of this version stands outside the block
-pub record IsThere (per : ℕ) (probes : List Probe) (block page count version : ℕ) : Type 0 where
+pub record IsVersionThere (per : ℕ) (probes : List Probe) (block page count version : ℕ) : Type 0 where
   pub at : ℕ
   pub spare : Spare
   pub below : at < count
@@ -97,7 +97,7 @@ pub record IsThere (per : ℕ) (probes : List Probe) (block page count version :
   pub same : spare.version ≡ version
 
 there_here : (per : ℕ) (probes : List Probe) (block page place : ℕ) → 0 < version_outside per probes block page place
-    → IsThere per probes block page (suc place) (version_outside per probes block page place)
+    → IsVersionThere per probes block page (suc place) (version_outside per probes block page place)
 there_here per probes block page place some = elim (cases_eq (place / per) block) [
   | inl inside ↦ (let none = out_same per probes block page place inside in absurd (omega arith))
   | inr out ↦
@@ -115,7 +115,7 @@ there_here per probes block page place some = elim (cases_eq (place / per) block
 ]
 
 there_more : (per : ℕ) (probes : List Probe) (block page count version other : ℕ)
-    → IsThere per probes block page count version → version ≡ other → IsThere per probes block page (suc count) other
+    → IsVersionThere per probes block page count version → version ≡ other → IsVersionThere per probes block page (suc count) other
 there_more per probes block page count version other there same = record {
   at = there.at;
   spare = there.spare;
@@ -127,14 +127,14 @@ there_more per probes block page count version other there same = record {
 }
 
 there_as : (per : ℕ) (probes : List Probe) (block page count version other : ℕ)
-    → IsThere per probes block page count version → version ≡ other → IsThere per probes block page count other
+    → IsVersionThere per probes block page count version → version ≡ other → IsVersionThere per probes block page count other
 there_as per probes block page count version other there same =
-    subst (λ (n : ℕ). IsThere per probes block page count n) same there
+    subst (λ (n : ℕ). IsVersionThere per probes block page count n) same there
 
 -- the newest version stands outside the block, if there is one
 pub newest_there : (per : ℕ) (probes : List Probe) (block page count : ℕ)
     → 0 < newest_outside per probes block page count
-    → IsThere per probes block page count (newest_outside per probes block page count)
+    → IsVersionThere per probes block page count (newest_outside per probes block page count)
 newest_there per probes block page zero some = absurd (omega arith)
 newest_there per probes block page (suc count) some =
     elim (cases_lt (newest_outside per probes block page count) (version_outside per probes block page count)) [
@@ -185,7 +185,7 @@ order_same page at old new same order =
 pub tops_more : (per : ℕ) (probes : List Probe) (count block : ℕ) (spare : Spare) (old new : List Top)
     → AreTops per probes count old → probe_at probes count ≡ Sealed spare → count / per ≡ block
     → new ≡ set old spare.page.0 (top_at new spare.page.0)
-    → IsRaised (top_at old spare.page.0) spare.version block (top_at new spare.page.0)
+    → IsTopRaised (top_at old spare.page.0) spare.version block (top_at new spare.page.0)
     → AreTops per probes (count + 1) new
 tops_more per probes count block spare old new are is lies only raised =
     let size : length new ≡ length old = ap (λ (xs : List Top). length xs) only ∙ length-set old spare.page.0 (top_at new spare.page.0) in

@@ -9,7 +9,7 @@ use Rattle.ff_space.specs.Blocks.{block_placed, erased_block, waiting}
 use Rattle.ff_space.specs.BlockTable.{TableView, block_at, changed_at, new_table}
 use Rattle.ff_space.specs.declared.block.BlockEntry.{BlockEntry}
 use Rattle.ff_scan.specs.Found.{IsFoundBlock, IsUsed}
-use Rattle.ff_scan.specs.Placed.{ArePlaced, found_entry}
+use Rattle.ff_scan.specs.Placed.{AreBlocksPlaced, found_entry}
 use Rattle.ff_scan.specs.Probes.{probe_at}
 
 -- one more page of a block, which is erased
@@ -62,9 +62,9 @@ entry_other table block other entry apart =
 
 -- the write place of one more block
 placed_next : (g : Geometry) (probes : List Probe) (spare block next : ℕ) (is_spare : Bool) (table : TableView)
-    → eqb spare block ≡ is_spare → block < g.blocks → ArePlaced g probes spare block table
+    → eqb spare block ≡ is_spare → block < g.blocks → AreBlocksPlaced g probes spare block table
     → IsUsed g.per_block probes block g.per_block next
-    → ArePlaced g probes spare (block + 1) (changed_at table block (λ _. found_entry table.per_block is_spare next))
+    → AreBlocksPlaced g probes spare (block + 1) (changed_at table block (λ _. found_entry table.per_block is_spare next))
 placed_next g probes spare block next is_spare table test below are used =
     let entry : BlockEntry = found_entry table.per_block is_spare next in
     let size = are.block_count in
@@ -93,26 +93,26 @@ placed_next g probes spare block next is_spare table test below are used =
     }
 
 pub placed_spare : (g : Geometry) (probes : List Probe) (spare block next : ℕ) (table new : TableView)
-    → block < g.blocks → ArePlaced g probes spare block table → IsUsed g.per_block probes block g.per_block next
+    → block < g.blocks → AreBlocksPlaced g probes spare block table → IsUsed g.per_block probes block g.per_block next
     → block ≡ spare → new ≡ changed_at table block (λ _. found_entry table.per_block true next)
-    → ArePlaced g probes spare (block + 1) new
+    → AreBlocksPlaced g probes spare (block + 1) new
 placed_spare g probes spare block next table new below are used same is =
-    subst (λ (t : TableView). ArePlaced g probes spare (block + 1) t) (sym is)
+    subst (λ (t : TableView). AreBlocksPlaced g probes spare (block + 1) t) (sym is)
     (placed_next g probes spare block next true table (eq-eqb spare block (sym same)) below are used)
 
 pub placed_other : (g : Geometry) (probes : List Probe) (spare block next : ℕ) (table new : TableView)
-    → block < g.blocks → ArePlaced g probes spare block table → IsUsed g.per_block probes block g.per_block next
+    → block < g.blocks → AreBlocksPlaced g probes spare block table → IsUsed g.per_block probes block g.per_block next
     → block ≢ spare → new ≡ changed_at table block (λ _. block_placed table.per_block next)
-    → ArePlaced g probes spare (block + 1) new
+    → AreBlocksPlaced g probes spare (block + 1) new
 placed_other g probes spare block next table new below are used other is =
-    subst (λ (t : TableView). ArePlaced g probes spare (block + 1) t) (sym is)
+    subst (λ (t : TableView). AreBlocksPlaced g probes spare (block + 1) t) (sym is)
     (placed_next g probes spare block next false table (ne_eqb spare block (λ same. other (sym same))) below are used)
 
 -- a new table
 pub placed_none : (g : Geometry) (probes : List Probe) (spare : ℕ) (table : TableView) → table ≡ new_table g
-    → ArePlaced g probes spare 0 table
+    → AreBlocksPlaced g probes spare 0 table
 placed_none g probes spare table is =
-    subst (λ (t : TableView). ArePlaced g probes spare 0 t) (sym is) (record {
+    subst (λ (t : TableView). AreBlocksPlaced g probes spare 0 t) (sym is) (record {
       per_block = refl;
       block_count = length-replicate g.blocks erased_block;
       placed = λ b below. absurd (omega arith);

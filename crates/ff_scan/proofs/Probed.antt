@@ -10,13 +10,13 @@ use Rattle.ff_flash.specs.Plans.{Planned, due_stop}
 use Rattle.ff_flash.specs.declared.flash.FlashStop.{FlashStop}
 use Rattle.ff_flash.specs.declared.flash.Probe.{Probe}
 use Rattle.ff_scan.specs.Probes.{probes_of}
-use Rattle.ff_scan.specs.Probing.{IsProbed, IsStopped, first_stop}
+use Rattle.ff_scan.specs.Probing.{IsProbed, IsProbeStopped, first_stop}
 
 abbrev counted : FlashState → ℕ → FlashState
 counted old count = record old { operations = old.operations + count }
 
-stopped_later : (old new : FlashState) (count : ℕ) (stop : FlashStop) → IsStopped (counted old count) stop new
-    → IsStopped old stop new
+stopped_later : (old new : FlashState) (count : ℕ) (stop : FlashStop) → IsProbeStopped (counted old count) stop new
+    → IsProbeStopped old stop new
 stopped_later old new count stop is = record {
   same = record {
     blocks = is.same.blocks;
@@ -104,7 +104,7 @@ planned_none None made = tt
 planned_none (Some plan) made = refl
 
 -- so many probes went well: the flash, and what they told
-pub record IsUnderWay (old now : FlashState) (count places capacity : ℕ) (probes : List Probe) : Type 0 where
+pub record IsProbing (old now : FlashState) (count places capacity : ℕ) (probes : List Probe) : Type 0 where
   pub went : IsProbed old count None now
   pub planned : IfSome old.plan (λ plan. None ≡ first_stop plan old.operations count)
   pub told : probes ≡ probes_of (take count old.cells)
@@ -112,10 +112,10 @@ pub record IsUnderWay (old now : FlashState) (count places capacity : ℕ) (prob
 
 -- one probe more
 pub under_way_more : (old now new : FlashState) (count places capacity more : ℕ) (probes after : List Probe)
-    → count < length old.cells → IsUnderWay old now count places capacity probes → IsProbed now 1 None new
+    → count < length old.cells → IsProbing old now count places capacity probes → IsProbed now 1 None new
     → IfSome now.plan (λ plan. None ≡ first_stop plan now.operations 1)
     → after ≡ probes ++ cell_probe (cell_at now.cells count) ∷ [] → capacity ≤ more
-    → IsUnderWay old new (count + 1) places more after
+    → IsProbing old new (count + 1) places more after
 under_way_more old now new count places capacity more probes after below way went planned told grown = record {
   went = probed_more old now new count None way.went went;
   planned = planned_more old now count None way.went way.planned planned;

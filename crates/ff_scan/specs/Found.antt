@@ -34,23 +34,24 @@ pub record IsFoundBlock (per_block : ℕ) (probes : List Probe) (spare block : �
   pub state : entry.state ≡ found_state per_block (spare == block) entry.next
 
 -- a mapping lies in the block
-abbrev pub lies_in : ℕ → ℕ → Option Mapping → Bool
-lies_in per_block block None = false
-lies_in per_block block (Some m) = m.at.0 / per_block == block
+abbrev pub is_in : ℕ → ℕ → Option Mapping → Bool
+is_in per_block block None = false
+is_in per_block block (Some m) = m.at.0 / per_block == block
 
 -- how many pages are mapped in the block
 abbrev pub mapped_in : ℕ → MapView → ℕ → ℕ
-mapped_in per_block places block = count_by (λ m. lies_in per_block block m) places.pages
+mapped_in per_block places block = count_by (λ m. is_in per_block block m) places.pages
 
 -- a sealed page outside the spare block
-pub record IsOutside (per_block : ℕ) (probes : List Probe) (spare at : ℕ) (found : Spare) : Type 0 where
+pub record IsOutside (per_block : ℕ) (probes : List Probe) (spare at : ℕ) (found : Spare)
+    : Type 0 where
   pub is : probe_at probes at ≡ Sealed found
   pub outside : at / per_block ≢ spare
 
 -- a page's mapping: outside the spare block no version of the page is newer, and none that is as new is at a place
 -- before this one
-pub record IsNewest (per_block : ℕ) (probes : List Probe) (spare : ℕ) (page : PageNo) (m : Mapping)
-    : Type 0 where
+pub record IsNewestMapping (per_block : ℕ) (probes : List Probe) (spare : ℕ) (page : PageNo)
+    (m : Mapping) : Type 0 where
   pub there : IsOutside per_block probes spare m.at.0 (record { page = page; version = m.version })
   pub newest : (at : ℕ) (found : Spare) → IsOutside per_block probes spare at found
       → found.page ≡ page → found.version ≤ m.version
@@ -61,7 +62,7 @@ pub record IsNewest (per_block : ℕ) (probes : List Probe) (spare : ℕ) (page 
 abbrev pub IsFoundPage : ℕ → List Probe → ℕ → PageNo → Option Mapping → Type 0
 IsFoundPage per_block probes spare page None = (at : ℕ) (found : Spare)
     → IsOutside per_block probes spare at found → found.page ≢ page
-IsFoundPage per_block probes spare page (Some m) = IsNewest per_block probes spare page m
+IsFoundPage per_block probes spare page (Some m) = IsNewestMapping per_block probes spare page m
 
 -- a version is one less than this
 pub record IsOneAbove (probes : List Probe) (next : ℕ) : Type 0 where

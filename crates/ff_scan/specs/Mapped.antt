@@ -7,7 +7,7 @@ use Rattle.ff_flash.specs.declared.spare.Spare.{Spare}
 use Rattle.ff_space.specs.BlockTable.{TableView, block_at}
 use Rattle.ff_map.specs.PageMap.{MapView, mapping_of}
 use Rattle.ff_map.specs.declared.places.Mapping.{Mapping}
-use Rattle.ff_scan.specs.Found.{IsFoundBlock, IsNewest, IsOutside, mapped_in}
+use Rattle.ff_scan.specs.Found.{IsFoundBlock, IsNewestMapping, IsOutside, mapped_in}
 use Rattle.ff_scan.specs.Tops.{newest_outside}
 
 -- the place holds the newest version of a page outside the spare block
@@ -16,7 +16,7 @@ pub record IsTop (per_block : ℕ) (probes : List Probe) (spare at : ℕ) (found
   pub newest : found.version ≡ newest_outside per_block probes spare found.page.0 (length probes)
 
 -- of so many places, the newest ones are mapped and counted
-pub record AreMapped (g : Geometry) (probes : List Probe) (spare count : ℕ) (table : TableView)
+pub record AreTopsMapped (g : Geometry) (probes : List Probe) (spare count : ℕ) (table : TableView)
     (places : MapView) : Type 0 where
   pub per_block : table.per_block ≡ g.per_block
   pub block_count : length table.blocks ≡ g.blocks
@@ -30,6 +30,6 @@ pub record AreMapped (g : Geometry) (probes : List Probe) (spare count : ℕ) (t
   pub place_count : places.places ≡ g.blocks * g.per_block
   pub below : (page : PageNo) (m : Mapping) → mapping_of places page ≡ Some m → m.at.0 < count
   pub mapped : (page : PageNo) (m : Mapping) → mapping_of places page ≡ Some m
-      → IsNewest g.per_block probes spare page m
+      → IsNewestMapping g.per_block probes spare page m
   pub unmapped : (at : ℕ) (found : Spare) → at < count → IsTop g.per_block probes spare at found
       → mapping_of places found.page ≢ None

@@ -13,8 +13,8 @@ found_entry per_block is_spare next =
     record { state = found_state per_block is_spare next; next = next; mapped = 0 }
 
 -- the write places of so many blocks are recorded, and no page is counted
-pub record ArePlaced (g : Geometry) (probes : List Probe) (spare count : ℕ) (table : TableView)
-    : Type 0 where
+pub record AreBlocksPlaced (g : Geometry) (probes : List Probe) (spare count : ℕ)
+    (table : TableView) : Type 0 where
   pub per_block : table.per_block ≡ g.per_block
   pub block_count : length table.blocks ≡ g.blocks
   pub placed : (block : ℕ) → block < count

@@ -13,7 +13,7 @@ first_stop plan made (suc count) =
     option_or (due_stop plan (made + 1)) (first_stop plan (made + 1) count)
 
 -- operations that change no cell, the last of which stopped
-pub record IsStopped (old : FlashState) (stop : FlashStop) (new : FlashState) : Type 0 where
+pub record IsProbeStopped (old : FlashState) (stop : FlashStop) (new : FlashState) : Type 0 where
   pub same : SameFlash old new
   pub cells : new.cells ≡ old.cells
   pub rise : old.operations ≤ new.operations
@@ -25,4 +25,4 @@ pub record IsStopped (old : FlashState) (stop : FlashStop) (new : FlashState) : 
 -- so many operations that change no cell: all of them went well, or the last that was made stopped so
 abbrev pub IsProbed : FlashState → ℕ → Option FlashStop → FlashState → Type 0
 IsProbed old count None new = new ≡ record old { operations = old.operations + count }
-IsProbed old count (Some stop) new = IsStopped old stop new
+IsProbed old count (Some stop) new = IsProbeStopped old stop new

@@ -36,7 +36,7 @@ abbrev pub top_at : List Top → ℕ → Top
 top_at tops page = slice_index_or tops page blank_top
 
 -- one more version of the page was found, in this block
-pub record IsRaised (old : Top) (version block : ℕ) (new : Top) : Type 0 where
+pub record IsTopRaised (old : Top) (version block : ℕ) (new : Top) : Type 0 where
   pub order : new.second ≤ new.first
   pub elsewhere : (other : ℕ)
       → outside new other ≡ max (outside old other) (if block == other then 0 else version)

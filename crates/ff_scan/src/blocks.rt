@@ -5,7 +5,7 @@ ghost use Rattle.ff_flash.specs.declared.flash.Probe.TheVariants.{Erased};
 ghost use Rattle.ff_space.specs.BlockTable.{IsInRange, block_at, changed_at};
 ghost use Rattle.ff_space.specs.Blocks.{erased_block};
 ghost use Rattle.ff_scan.specs.Found.{IsUsed};
-ghost use Rattle.ff_scan.specs.Placed.{ArePlaced, found_entry};
+ghost use Rattle.ff_scan.specs.Placed.{AreBlocksPlaced, found_entry};
 ghost use Rattle.ff_scan.specs.Probes.{AreProbes};
 
 use ff_base::{Block, Geometry};
@@ -16,8 +16,8 @@ use ff_space::BlockTable;
 pub fn place_all(space: &mut BlockTable, probes: &[Probe], geometry: &Geometry, spare: Block)
     requires limits { IsWithinLimits geometry.now }
     requires probes { AreProbes geometry.now probes.now }
-    requires none { ArePlaced geometry.now probes.now spare.0 0 space.old }
-    ensures { ArePlaced geometry.now probes.now spare.0 geometry.now.blocks space.new }
+    requires none { AreBlocksPlaced geometry.now probes.now spare.0 0 space.old }
+    ensures { AreBlocksPlaced geometry.now probes.now spare.0 geometry.now.blocks space.new }
 {
     for block in 0..geometry.blocks {
         place_one(space, probes, geometry, spare, Block(block));
@@ -35,8 +35,8 @@ fn place_one(
     requires limits { IsWithinLimits geometry.now }
     requires probes { AreProbes geometry.now probes.now }
     requires block { block.0 < geometry.now.blocks }
-    requires placed { ArePlaced geometry.now probes.now spare.0 block.0 space.old }
-    ensures { ArePlaced geometry.now probes.now spare.0 (block.0 + 1) space.new }
+    requires placed { AreBlocksPlaced geometry.now probes.now spare.0 block.0 space.old }
+    ensures { AreBlocksPlaced geometry.now probes.now spare.0 (block.0 + 1) space.new }
 {
     let write_place = used(probes, geometry, block);
     if block == spare {
@@ -51,7 +51,8 @@ fn set_spare(space: &mut BlockTable, block: Block, next: u32)
     requires in_range { IsInRange space.old block.0 }
     requires erased { block_at space.old block.0 ≡ erased_block }
     requires next { next ≤ space.old.per_block }
-    ensures { space.new ≡ changed_at space.old block.0 (λ _. found_entry space.old.per_block true next) }
+    ensures { space.new ≡ changed_at space.old block.0
+        (λ _. found_entry space.old.per_block true next) }
 {
     space.set_place(block, next);
     if next > 0 {

@@ -2,7 +2,7 @@
 ghost use Rattle.std.specs.Prelude.{◌≡◌, ◌<◌, ◌↔◌, length, IsTrue, MatchOption};
 ghost use Rattle.ff_base.specs.Geometry.{IsWithinLimits};
 ghost use Rattle.ff_space.specs.Choices.{IsLeast, NoBlock};
-ghost use Rattle.ff_scan.specs.Covered.{IsBackedAt, IsCovered, IsCoveredBlock};
+ghost use Rattle.ff_scan.specs.Covered.{IsPlaceBacked, IsCoveredByProbes, IsCoveredBlock};
 ghost use Rattle.ff_scan.specs.Probes.{AreProbes};
 ghost use Rattle.ff_scan.specs.Tops.{AreTops};
 
@@ -34,7 +34,7 @@ fn is_covered(probes: &[Probe], geometry: &Geometry, tops: &[Top], block: u32) -
     requires pages { length tops.now ≡ geometry.now.pages }
     requires tops { AreTops geometry.now.per_block probes.now (length probes.now) tops.now }
     requires block { block < geometry.now.blocks }
-    ensures { IsTrue result ↔ IsCovered geometry.now.per_block probes.now block }
+    ensures { IsTrue result ↔ IsCoveredByProbes geometry.now.per_block probes.now block }
 {
     let first = block * geometry.per_block;
     for place in first..first + geometry.per_block {
@@ -53,7 +53,7 @@ fn is_backed(probes: &[Probe], geometry: &Geometry, tops: &[Top], place: u32) ->
     requires pages { length tops.now ≡ geometry.now.pages }
     requires tops { AreTops geometry.now.per_block probes.now (length probes.now) tops.now }
     requires in_range { place < length probes.now }
-    ensures { IsTrue result ↔ IsBackedAt geometry.now.per_block probes.now place }
+    ensures { IsTrue result ↔ IsPlaceBacked geometry.now.per_block probes.now place }
 {
     match probes[place as usize] {
         Probe::Sealed(spare) => {

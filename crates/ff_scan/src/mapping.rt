@@ -6,7 +6,7 @@ ghost use Rattle.ff_space.specs.BlockTable.{block_at, changed_at};
 ghost use Rattle.ff_space.specs.Blocks.{mapped_more};
 ghost use Rattle.ff_space.specs.declared.block.BlockState.TheVariants.{Waiting};
 ghost use Rattle.ff_map.specs.PageMap.{IsFreeBut, mapping_of, with_mapping};
-ghost use Rattle.ff_scan.specs.Mapped.{AreMapped, IsTop};
+ghost use Rattle.ff_scan.specs.Mapped.{AreTopsMapped, IsTop};
 ghost use Rattle.ff_scan.specs.Probes.{AreProbes, probe_at};
 ghost use Rattle.ff_scan.specs.Tops.{AreTops};
 
@@ -29,8 +29,9 @@ pub fn map_all(
     requires probes { AreProbes geometry.now probes.now }
     requires pages { length tops.now ≡ geometry.now.pages }
     requires tops { AreTops geometry.now.per_block probes.now (length probes.now) tops.now }
-    requires none { AreMapped geometry.now probes.now spare.0 0 space.old places.old }
-    ensures { AreMapped geometry.now probes.now spare.0 (length probes.now) space.new places.new }
+    requires none { AreTopsMapped geometry.now probes.now spare.0 0 space.old places.old }
+    ensures { AreTopsMapped geometry.now probes.now spare.0 (length probes.now) space.new
+        places.new }
 {
     for place in 0..geometry.blocks * geometry.per_block {
         map_place(space, places, probes, geometry, tops, spare, Ppn(place));
@@ -52,8 +53,8 @@ fn map_place(
     requires pages { length tops.now ≡ geometry.now.pages }
     requires tops { AreTops geometry.now.per_block probes.now (length probes.now) tops.now }
     requires place { place.0 < length probes.now }
-    requires mapped { AreMapped geometry.now probes.now spare.0 place.0 space.old places.old }
-    ensures { AreMapped geometry.now probes.now spare.0 (place.0 + 1) space.new places.new }
+    requires mapped { AreTopsMapped geometry.now probes.now spare.0 place.0 space.old places.old }
+    ensures { AreTopsMapped geometry.now probes.now spare.0 (place.0 + 1) space.new places.new }
 {
     if let Some(found) = wanted(places, probes, geometry, tops, spare, place) {
         map_found(space, places, probes, geometry, spare, place, found);
@@ -73,10 +74,10 @@ fn map_found(
     requires limits { IsWithinLimits geometry.now }
     requires probes { AreProbes geometry.now probes.now }
     requires place { place.0 < length probes.now }
-    requires mapped { AreMapped geometry.now probes.now spare.0 place.0 space.old places.old }
+    requires mapped { AreTopsMapped geometry.now probes.now spare.0 place.0 space.old places.old }
     requires top { IsTop geometry.now.per_block probes.now spare.0 place.0 found }
     requires none { mapping_of places.old found.page ≡ None }
-    ensures { AreMapped geometry.now probes.now spare.0 (place.0 + 1) space.new places.new }
+    ensures { AreTopsMapped geometry.now probes.now spare.0 (place.0 + 1) space.new places.new }
 {
     space.add_mapped(Block(place.0 / geometry.per_block));
     places.set(found.page, place, found.version);
@@ -96,7 +97,8 @@ fn wanted(
     requires pages { length tops.now ≡ geometry.now.pages }
     requires tops { AreTops geometry.now.per_block probes.now (length probes.now) tops.now }
     requires place { place.0 < length probes.now }
-    ensures top { IfSome result (λ found. IsTop geometry.now.per_block probes.now spare.0 place.0 found) }
+    ensures top { IfSome result
+        (λ found. IsTop geometry.now.per_block probes.now spare.0 place.0 found) }
     ensures none { IfSome result (λ found. mapping_of places.now found.page ≡ None) }
     ensures other { IfNone result ((found : Spare)
         → IsTop geometry.now.per_block probes.now spare.0 place.0 found

@@ -2,7 +2,7 @@
 ghost use Rattle.std.specs.Prelude.{◌≡◌, ◌+◌, ◌<◌, ◌≤◌, length, slice_set};
 ghost use Rattle.ff_base.specs.Geometry.{IsWithinLimits};
 ghost use Rattle.ff_scan.specs.Probes.{AreProbes};
-ghost use Rattle.ff_scan.specs.Tops.{AreTops, IsRaised, outside, top_at};
+ghost use Rattle.ff_scan.specs.Tops.{AreTops, IsTopRaised, outside, top_at};
 
 use ff_base::Geometry;
 use ff_flash::{Probe, Spare};
@@ -29,7 +29,7 @@ impl Top {
 
     fn raised(self, version: u64, block: u32) -> Top
         requires { self.second ≤ self.first }
-        ensures { IsRaised self version block result }
+        ensures { IsTopRaised self version block result }
     {
         if self.block == block {
             Top {
@@ -82,7 +82,7 @@ fn note(tops: &mut [Top], spare: Spare, block: u32)
     requires page { spare.page.0 < length tops.old }
     requires order { (top_at tops.old spare.page.0).second ≤ (top_at tops.old spare.page.0).first }
     ensures only { tops.new ≡ slice_set tops.old spare.page.0 (top_at tops.new spare.page.0) }
-    ensures there { IsRaised (top_at tops.old spare.page.0) spare.version block
+    ensures there { IsTopRaised (top_at tops.old spare.page.0) spare.version block
         (top_at tops.new spare.page.0) }
 {
     let at = spare.page.0 as usize;

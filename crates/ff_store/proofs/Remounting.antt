@@ -24,9 +24,9 @@ use Rattle.ff_space.specs.declared.block.BlockState.TheVariants.{Erased, Full, H
 use Rattle.ff_map.specs.PageMap.{MapView, mapping_of}
 use Rattle.ff_map.specs.declared.places.Mapping.{Mapping}
 use Rattle.ff_scan.proofs.Newest.{sealed_within}
-use Rattle.ff_scan.specs.Found.{IsFoundPage, IsNewest, IsOneAbove, IsScan, found_state}
+use Rattle.ff_scan.specs.Found.{IsFoundPage, IsNewestMapping, IsOneAbove, IsScan, found_state}
 use Rattle.ff_scan.specs.Probes.{probes_of}
-use Rattle.ff_scan.specs.Probing.{IsStopped}
+use Rattle.ff_scan.specs.Probing.{IsProbeStopped}
 use Rattle.ff_gc.proofs.Counting.{count_fewer, count_zero}
 use Rattle.ff_gc.proofs.Numbers.{block_within, place_is}
 use Rattle.ff_gc.specs.Cells.{AreMapped, AreSealed, HasNewer, IsSafe}
@@ -45,7 +45,7 @@ use Rattle.ff_store.specs.declared.remount.StoreStop.TheVariants.{NoMemory, Fail
 -- a page's mapping is the newest outside the spare block
 newest : (g : Geometry) (cells : List Cell) (spare : ℕ) (table : TableView) (places : MapView) (page : PageNo) (m : Mapping)
     → IsScan g (probes_of cells) spare table places → mapping_of places page ≡ Some m
-    → IsNewest g.per_block (probes_of cells) spare page m
+    → IsNewestMapping g.per_block (probes_of cells) spare page m
 newest g cells spare table places page m scan is =
     subst (λ (o : Option Mapping). IsFoundPage g.per_block (probes_of cells) spare page o) is (scan.pages page)
 
@@ -370,7 +370,7 @@ remountable_up g flash sound = record {
 }
 
 stopped_remountable : (g : Geometry) (old new : FlashState) (stop : FlashStop) → IsRemountable g old
-    → IsStopped (powered_up old) stop new → IsRemountable g new
+    → IsProbeStopped (powered_up old) stop new → IsRemountable g new
 stopped_remountable g old new stop sound is = record {
   blocks = is.same.blocks ∙ sound.blocks;
   per_block = is.same.per_block ∙ sound.per_block;

@@ -12,7 +12,7 @@ use Rattle.ff_space.specs.BlockTable.{TableView, block_at}
 use Rattle.ff_map.specs.PageMap.{MapView}
 use Rattle.ff_scan.specs.Found.{IsScan}
 use Rattle.ff_scan.specs.Probes.{probes_of}
-use Rattle.ff_scan.specs.Probing.{IsStopped, first_stop}
+use Rattle.ff_scan.specs.Probing.{IsProbeStopped, first_stop}
 use Rattle.ff_gc.specs.Cells.{AreSealed, HasCovered}
 use Rattle.ff_gc.specs.Collector.{mounted_phase, new_collector}
 use Rattle.ff_gc.specs.World.{World, page_bytes}
@@ -74,11 +74,11 @@ store_stop FlashOff = Off
 -- a flash that is handed back: its power was turned on, and the probes up to one that stopped so were made, or none
 abbrev pub IsHandedBack : FlashState → StoreStop → FlashState → Type 0
 IsHandedBack old NoMemory new = new ≡ powered_up old
-IsHandedBack old Failed new = IsStopped (powered_up old) FlashFailed new
-IsHandedBack old Off new = IsStopped (powered_up old) FlashOff new
+IsHandedBack old Failed new = IsProbeStopped (powered_up old) FlashFailed new
+IsHandedBack old Off new = IsProbeStopped (powered_up old) FlashOff new
 
 -- the first operation that the plan stops, of so many, stops so. Want of memory comes before all of them
-abbrev pub StopsBy : Planned → ℕ → ℕ → StoreStop → Type 0
-StopsBy plan made count NoMemory = Unit {0}
-StopsBy plan made count Failed = first_stop plan made count ≡ Some FlashFailed
-StopsBy plan made count Off = first_stop plan made count ≡ Some FlashOff
+abbrev pub IsPlannedStop : Planned → ℕ → ℕ → StoreStop → Type 0
+IsPlannedStop plan made count NoMemory = Unit {0}
+IsPlannedStop plan made count Failed = first_stop plan made count ≡ Some FlashFailed
+IsPlannedStop plan made count Off = first_stop plan made count ≡ Some FlashOff

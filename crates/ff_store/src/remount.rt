@@ -6,7 +6,7 @@ ghost use Rattle.ff_scan.specs.Probes.{probes_of};
 ghost use Rattle.ff_scan.specs.Probing.{first_stop};
 ghost use Rattle.ff_scan.specs.Scan.{new_scan};
 ghost use Rattle.ff_gc.specs.Collector.{new_collector};
-ghost use Rattle.ff_store.specs.Remounted.{IsHandedBack, IsRemountable, IsRemounted, StopsBy, block_to_erase, probed_flash, store_stop};
+ghost use Rattle.ff_store.specs.Remounted.{IsHandedBack, IsRemountable, IsRemounted, IsPlannedStop, block_to_erase, probed_flash, store_stop};
 
 use crate::store::PageStore;
 use ff_base::{Block, Geometry, NoMemory};
@@ -89,7 +89,7 @@ impl<F: Flash> PageStore<F> {
         ensures planned { IfSome (F.state flash).plan (λ plan. MatchResult result
             (λ _. first_stop plan (F.state flash).operations
             (geometry.now.blocks * geometry.now.per_block) ≡ None)
-            (λ back. StopsBy plan (F.state flash).operations
+            (λ back. IsPlannedStop plan (F.state flash).operations
             (geometry.now.blocks * geometry.now.per_block) back.stop)) }
     {
         let mut flash = flash;
@@ -118,7 +118,7 @@ impl<F: Flash> PageStore<F> {
         ensures planned { IfSome (F.state flash).plan (λ plan. MatchResult result
             (λ _. first_stop plan (F.state flash).operations
             (geometry.now.blocks * geometry.now.per_block) ≡ None)
-            (λ back. StopsBy plan (F.state flash).operations
+            (λ back. IsPlannedStop plan (F.state flash).operations
             (geometry.now.blocks * geometry.now.per_block) back.stop)) }
     {
         let mut flash = flash;
