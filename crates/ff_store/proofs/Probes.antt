@@ -1,11 +1,10 @@
 -- What the probes of all places tell of the cells.
-use Rattle.std.proofs.Common.{◌≡◌, ◌≢◌, ◌<◌, ◌*◌, ◌/◌, ◌^◌, ℕ, List, length, refl, sym, ap, ◌∙◌, arith}
+use Rattle.std.proofs.Common.{◌≡◌, ◌<◌, ◌*◌, ◌^◌, ℕ, List, length, refl, sym, ap, ◌∙◌, arith}
 use Rattle.std.proofs.Math.ListN.{get_or-map}
 use Rattle.std.proofs.lemmas.List.{length-map}
 use Rattle.ff_base.specs.declared.geometry.Geometry.{Geometry}
 use Rattle.ff_flash.specs.Cells.{Cell, cell_at, cell_bytes, cell_probe, closed, erased, sealed, spoiled}
 use Rattle.ff_flash.specs.FlashState.{FlashState}
-use Rattle.ff_flash.specs.declared.flash.Probe.{Probe}
 use Rattle.ff_flash.specs.declared.flash.Probe.TheVariants.{Closed, Erased, Sealed, Spoiled}
 use Rattle.ff_flash.specs.declared.spare.Spare.{Spare}
 use Rattle.ff_space.specs.Choices.{NoBlock}

@@ -3,22 +3,18 @@ use Rattle.std.proofs.Common.{◌≡◌, ◌≢◌, ◌<◌, ◌≤◌, ◌+◌,
 use Rattle.std.specs.Prelude.{is_some}
 use Rattle.std.specs.List.{range_with_len}
 use Rattle.std.proofs.lemmas.Bool.{cases_Bool, cases_eq, cases_lt, eq-eqb, eqb-true, ne_eqb}
-use Rattle.std.proofs.lemmas.List.{get_or_past}
 use Rattle.std.proofs.lemmas.List.FromFn.{get_or-range_with_len, length-range_with_len}
 use Rattle.std.proofs.lemmas.Nat.{mod_below}
 use Rattle.std.proofs.lemmas.Option.{none-some}
-use Rattle.ff_base.specs.Geometry.{IsWithinLimits, capacity_of}
+use Rattle.ff_base.specs.Geometry.{IsWithinLimits}
 use Rattle.ff_base.specs.declared.geometry.Geometry.{Geometry}
-use Rattle.ff_base.specs.declared.numbers.Block.{Block}
 use Rattle.ff_base.specs.declared.numbers.PageNo.{PageNo}
 use Rattle.ff_flash.specs.Cells.{Cell, cell_at, cell_bytes, erased, sealed}
 use Rattle.ff_flash.specs.FlashState.{FlashState, powered_up}
 use Rattle.ff_flash.specs.declared.flash.FlashStop.{FlashStop}
 use Rattle.ff_flash.specs.declared.flash.FlashStop.TheVariants.{Failed as FlashFailed, Off as FlashOff}
 use Rattle.ff_flash.specs.declared.spare.Spare.{Spare}
-use Rattle.ff_space.specs.Blocks.{state_by_next}
 use Rattle.ff_space.specs.BlockTable.{IsInState, TableView, block_at}
-use Rattle.ff_space.specs.declared.block.BlockEntry.{BlockEntry}
 use Rattle.ff_space.specs.declared.block.BlockState.{BlockState}
 use Rattle.ff_space.specs.declared.block.BlockState.TheVariants.{Erased, Full, Held, Open, Waiting}
 use Rattle.ff_map.specs.PageMap.{MapView, mapping_of}
@@ -29,16 +25,16 @@ use Rattle.ff_scan.specs.Probes.{probes_of}
 use Rattle.ff_scan.specs.Probing.{IsProbeStopped}
 use Rattle.ff_gc.proofs.Counting.{count_fewer, count_zero}
 use Rattle.ff_gc.proofs.Numbers.{block_within, place_is}
-use Rattle.ff_gc.specs.Cells.{AreMapped, AreSealed, HasNewer, IsSafe}
-use Rattle.ff_gc.specs.Collector.{CollectorView, mounted_phase, new_collector}
-use Rattle.ff_gc.specs.Running.{IsAt, IsLive, IsTabled, is_in, mapped_in}
+use Rattle.ff_gc.specs.Cells.{AreMapped, AreSealed, HasNewer}
+use Rattle.ff_gc.specs.Collector.{CollectorView, mounted_phase}
+use Rattle.ff_gc.specs.Running.{IsAt, IsTabled, is_in}
 use Rattle.ff_store.proofs.Bests.{IsBest, best_is, sealed_holds}
 use Rattle.ff_store.proofs.Mounting.{best_bytes, covered, few_sealed}
 use Rattle.ff_store.proofs.Probes.{cell_erased, cell_sealed, probe_sealed}
-use Rattle.ff_store.specs.Best.{Version, best, bytes_or_zeros, sealed_count}
-use Rattle.ff_store.specs.PageStore.{IsAlways, IsStoreSound, PageStoreView}
+use Rattle.ff_store.specs.Best.{Version, best, sealed_count}
+use Rattle.ff_store.specs.PageStore.{IsStoreSound, PageStoreView}
 use Rattle.ff_store.specs.Pages.{mapped_count}
-use Rattle.ff_store.specs.Remounted.{IsHandedBack, IsOfGeometry, IsRemountable, IsRemounted, block_to_erase, found_store}
+use Rattle.ff_store.specs.Remounted.{IsHandedBack, IsOfGeometry, IsRemountable, IsRemounted, found_store}
 use Rattle.ff_store.specs.declared.remount.StoreStop.{StoreStop}
 use Rattle.ff_store.specs.declared.remount.StoreStop.TheVariants.{NoMemory, Failed, Off}
 

@@ -1,7 +1,5 @@
 -- What the scan finds of a flash as a power loss left it makes a sound store.
 use Rattle.std.proofs.Common.{refl}
-use Rattle.ff_scan.specs.Found.{IsScan}
-use Rattle.ff_scan.specs.Probes.{probes_of}
 use Rattle.ff_store.proofs.Probes.{are_probes, covered_block}
 use Rattle.ff_store.proofs.Remounting.{remounted_bytes, remounted_sound}
 use Rattle.ff_store.proofs.store.PageStore.settle.Goals as goal
