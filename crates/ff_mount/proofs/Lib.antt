@@ -1,0 +1,4 @@
+pub mod Filling
+pub mod Pages
+pub mod Planning
+pub mod ReadSteps

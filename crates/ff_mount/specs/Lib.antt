@@ -1,0 +1,5 @@
+pub mod Filled
+pub mod Held
+pub mod Reading
+pub mod Sound
+pub mod Stops
