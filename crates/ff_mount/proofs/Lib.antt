@@ -2,3 +2,4 @@ pub mod Filling
 pub mod Pages
 pub mod Planning
 pub mod ReadSteps
+pub mod Sounding
