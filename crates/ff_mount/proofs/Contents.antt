@@ -1,23 +1,22 @@
 -- The bytes of what is held, by address.
-use Rattle.std.proofs.Common.{◌≡◌, ◌<◌, ◌≤◌, ◌+◌, ◌-◌, ◌*◌, ◌/◌, ◌%◌, ℕ, zero, Bool, true, false, List, length, take, drop, get_or, Option, None, Some, inl, inr, refl, sym, ap, subst, ◌∙◌, arith}
+use Rattle.std.proofs.Common.{◌≡◌, ◌<◌, ◌≤◌, ◌+◌, ◌-◌, ◌*◌, ◌/◌, ◌%◌, ℕ, zero, Bool, true, false, List, drop, get_or, Option, None, Some, inl, inr, refl, sym, ap, ◌∙◌, arith}
 use Rattle.std.specs.Prelude.{◌||◌, is_some, map, nat_lt, replicate, if◌then◌else◌}
 use Rattle.std.specs.List.{range_with_len}
-use Rattle.std.proofs.lemmas.Bool.{cases_Bool, cases_lt, le-ltb, lt-ltb}
+use Rattle.std.proofs.lemmas.Bool.{cases_lt, le-ltb, lt-ltb}
 use Rattle.std.proofs.lemmas.List.{get_or-drop, get_or-replicate, get_or-take, get_or_past, length-map, length-replicate}
 use Rattle.std.proofs.lemmas.List.FromFn.{get_or-map-range_with_len, length-range_with_len}
 use Rattle.std.proofs.lemmas.Option.{unwrap_or-slice_get}
 use Rattle.ff_base.specs.Page.{blank_page}
 use Rattle.ff_base.specs.declared.geometry.Geometry.{Geometry}
-use Rattle.ff_base.specs.declared.numbers.PageNo.{PageNo}
 use Rattle.ff_cache.specs.Nv.{NvView, NvWay}
-use Rattle.ff_flash.specs.Cells.{Cell, cell_at}
+use Rattle.ff_flash.specs.Cells.{Cell}
 use Rattle.ff_flash.specs.FlashState.{FlashState}
 use Rattle.ff_lines.specs.BlankLine.{line_or_blank}
 use Rattle.ff_model.specs.Image.{byte_at, byte_in, held_page}
 use Rattle.ff_mount.specs.Held.{best_of, held_bytes, held_content, image_page, is_dirty_way, is_held, way_bytes, way_of_page}
 use Rattle.ff_mount.specs.Sound.{AreSound}
 use Rattle.ff_store.proofs.Bests.{IsBest, best_is, sealed_found}
-use Rattle.ff_store.specs.Best.{Version, best, bytes_or_zeros}
+use Rattle.ff_store.specs.Best.{Version, bytes_or_zeros}
 
 -- neither a best version nor a dirty way
 unheld_by : (way : Option NvWay) (newest : Option Version)

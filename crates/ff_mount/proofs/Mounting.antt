@@ -1,5 +1,5 @@
 -- The parts of a mount are a cache over a store, and hold what the battery and the flash held.
-use Rattle.std.proofs.Common.{◌≡◌, ◌<◌, ◌≤◌, ℕ, Bool, true, false, List, [], ◌∷◌, length, Option, None, Some, refl, sym, ap, ap₂, subst, ◌∙◌, arith}
+use Rattle.std.proofs.Common.{◌≡◌, ℕ, Bool, List, [], ◌∷◌, length, Option, None, Some, refl, sym, ap, ap₂, ◌∙◌, arith}
 use Rattle.std.specs.Prelude.{◌||◌, is_some, option_map}
 use Rattle.std.proofs.lemmas.Option.{none-some}
 use Rattle.ff_base.specs.declared.geometry.Geometry.{Geometry}

@@ -1,8 +1,7 @@
 -- What a cache over a store leaves at a power loss is sound, and a page reads then as it does by the cache and the store.
-use Rattle.std.proofs.Common.{◌≡◌, ◌≢◌, ◌<◌, ◌≤◌, ℕ, Bool, true, false, List, length, Option, None, Some, inl, inr, refl, sym, ap, subst, ◌∙◌, arith}
+use Rattle.std.proofs.Common.{◌≡◌, ◌≢◌, ◌≤◌, ℕ, Bool, true, false, List, length, Option, None, Some, refl, sym, ap, subst, ◌∙◌, arith}
 use Rattle.std.specs.Prelude.{◌||◌, is_some, option_map}
-use Rattle.std.proofs.Math.ListN.{get_or, get_or-map as get_or-map_all}
-use Rattle.std.proofs.lemmas.Bool.{cases_Bool}
+use Rattle.std.proofs.Math.ListN.{get_or-map as get_or-map_all}
 use Rattle.std.proofs.lemmas.List.{length-map}
 use Rattle.std.proofs.lemmas.Option.{none-some, same_Some}
 use Rattle.ff_base.specs.Geometry.{capacity_of}
@@ -20,8 +19,8 @@ use Rattle.ff_lines.proofs.PageCounts.{count_below-part}
 use Rattle.ff_lines.specs.PageSets.{count_below}
 use Rattle.ff_mount.proofs.Pages.{way_of_slot}
 use Rattle.ff_mount.specs.Held.{best_of, held_bytes, is_dirty_way, is_held, nv_of, way_bytes, way_of_page}
-use Rattle.ff_mount.specs.Over.{HasDirtySlot, IsCacheOver, is_dirty_slot, is_written, slot_bytes}
-use Rattle.ff_mount.specs.Sound.{AreSound, AreWays}
+use Rattle.ff_mount.specs.Over.{IsCacheOver, is_dirty_slot, is_written, slot_bytes}
+use Rattle.ff_mount.specs.Sound.{AreSound}
 use Rattle.ff_store.proofs.Mounting.{best_bytes}
 use Rattle.ff_store.specs.Best.{Version, best, bytes_or_zeros, mapped_version}
 use Rattle.ff_store.specs.PageStore.{IsStoreSound, PageStoreView}

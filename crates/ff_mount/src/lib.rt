@@ -4,6 +4,8 @@
 mod image;
 mod page;
 mod stop;
+#[cfg(test)]
+mod tests;
 
 pub use image::{Mounted, image_of};
 pub use stop::MountStop;
