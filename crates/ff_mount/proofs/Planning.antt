@@ -1,34 +1,16 @@
 -- Which of many operations the plan stops first.
-use Rattle.std.proofs.Common.{◌≡◌, ◌≤◌, ◌+◌, ◌-◌, ℕ, zero, suc, Option, None, Some, refl, sym, ap, subst, ◌∙◌, arith}
+use Rattle.std.proofs.Common.{◌≡◌, ◌≤◌, ◌+◌, ◌-◌, ℕ, Option, None, Some, ap, subst, ◌∙◌, arith}
 use Rattle.std.specs.Prelude.{Ok, Err}
 use Rattle.std.specs.Option.{option_or}
-use Rattle.ff_flash.specs.Plans.{Planned, due_stop}
+use Rattle.ff_flash.specs.Plans.{Planned}
 use Rattle.ff_flash.specs.declared.flash.FlashStop.{FlashStop}
 use Rattle.ff_flash.specs.declared.flash.FlashStop.TheVariants.{Failed, Off as FlashOff}
 use Rattle.ff_mount.specs.Reading.{GoesByTold}
-use Rattle.ff_mount.specs.Stops.{StopsBy, first_stop}
+use Rattle.ff_mount.specs.Stops.{StopsBy}
 use Rattle.ff_mount.specs.declared.stop.MountStop.{MountStop}
 use Rattle.ff_mount.specs.declared.stop.MountStop.TheVariants.{NoMemory, Fault, Off}
-
-or_same : (a b c : Option FlashStop) → option_or (option_or a b) c ≡ option_or a (option_or b c)
-or_same None b c = refl
-or_same (Some a) b c = refl
-
--- the first stop of two runs of operations, one after the other
-pub first_stop-add : (plan : Planned) (made n m : ℕ)
-    → first_stop plan made (n + m) ≡ option_or (first_stop plan made n) (first_stop plan (made + n) m)
-first_stop-add plan made zero m =
-    let count : 0 + m ≡ m = omega arith in
-    let from : made + 0 ≡ made = omega arith in
-    ap (λ k. first_stop plan made k) count ∙ ap (λ k. first_stop plan k m) (sym from)
-first_stop-add plan made (suc n) m =
-    let count : suc n + m ≡ suc (n + m) = omega arith in
-    let from : made + 1 + n ≡ made + suc n = omega arith in
-    ap (λ k. first_stop plan made k) count
-    ∙ ap (λ (o : Option FlashStop). option_or (due_stop plan (made + 1)) o)
-    (first_stop-add plan (made + 1) n m
-    ∙ ap (λ k. option_or (first_stop plan (made + 1) n) (first_stop plan k m)) from)
-    ∙ sym (or_same (due_stop plan (made + 1)) (first_stop plan (made + 1) n) (first_stop plan (made + suc n) m))
+use Rattle.ff_scan.proofs.Probed.{first_stop-add}
+use Rattle.ff_scan.specs.Probing.{first_stop}
 
 -- the first run went well
 second_stop : (plan : Planned) (made n m : ℕ) → first_stop plan made n ≡ None

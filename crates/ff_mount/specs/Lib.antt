@@ -1,5 +1,6 @@
 pub mod Filled
 pub mod Held
+pub mod Mounted
 pub mod Over
 pub mod Reading
 pub mod Sound

@@ -2,9 +2,10 @@
 use Rattle.std.specs.Prelude.{ℕ, ◌+◌, ◌^◌, ◌<◌, ◌≤◌, ◌≡◌, ◌↔◌, true, false, Option, None, Some, Result, Ok, Err}
 use Rattle.ff_flash.specs.FlashState.{FlashState, SameFlash}
 use Rattle.ff_flash.specs.Plans.{Planned}
-use Rattle.ff_mount.specs.Stops.{StopsBy, first_stop}
+use Rattle.ff_mount.specs.Stops.{StopsBy}
 use Rattle.ff_mount.specs.declared.stop.MountStop.{MountStop}
 use Rattle.ff_mount.specs.declared.stop.MountStop.TheVariants.{Fault, Off}
+use Rattle.ff_scan.specs.Probing.{first_stop}
 use Rattle.ff_store.specs.PageStore.{PageStoreView}
 
 -- so many pages can be read: the power is on, and no flush waits

@@ -1,21 +1,23 @@
 -- How a mount and an image stop, and at which operation of the flash's plan.
-use Rattle.std.specs.Prelude.{ℕ, zero, suc, ◌+◌, ◌≡◌, Option, None, Some}
-use Rattle.std.specs.Option.{option_or}
-use Rattle.ff_flash.specs.Plans.{Planned, due_stop}
+use Rattle.std.specs.Prelude.{ℕ, ◌≡◌, Some}
+use Rattle.ff_flash.specs.Plans.{Planned}
 use Rattle.ff_flash.specs.declared.flash.FlashStop.{FlashStop}
 use Rattle.ff_flash.specs.declared.flash.FlashStop.TheVariants.{Failed, Off as FlashOff}
 use Rattle.ff_mount.specs.declared.stop.MountStop.{MountStop}
 use Rattle.ff_mount.specs.declared.stop.MountStop.TheVariants.{NoMemory, Fault, Off}
+use Rattle.ff_scan.specs.Probing.{first_stop}
+use Rattle.ff_store.specs.declared.remount.StoreStop.{StoreStop}
+use Rattle.ff_store.specs.declared.remount.StoreStop.TheVariants.{NoMemory as StoreNoMemory, Failed as StoreFailed, Off as StoreOff}
 
 abbrev pub mount_stop : FlashStop → MountStop
 mount_stop Failed = Fault
 mount_stop FlashOff = Off
 
--- how the first operation stops that the plan stops, of so many behind those that were made
-abbrev pub first_stop : Planned → ℕ → ℕ → Option FlashStop
-first_stop plan made zero = None
-first_stop plan made (suc count) =
-    option_or (due_stop plan (made + 1)) (first_stop plan (made + 1) count)
+-- how a mount stops where the store could not be made
+abbrev pub refused_stop : StoreStop → MountStop
+refused_stop StoreNoMemory = NoMemory
+refused_stop StoreFailed = Fault
+refused_stop StoreOff = Off
 
 -- a stop is want of memory, or that of the first of so many operations that the plan stops
 abbrev pub StopsBy : Planned → ℕ → ℕ → MountStop → Type 0
