@@ -1,0 +1,7 @@
+pub mod Filled
+pub mod Held
+pub mod Mounted
+pub mod Over
+pub mod Reading
+pub mod Sound
+pub mod Stops
