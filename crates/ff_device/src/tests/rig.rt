@@ -21,30 +21,33 @@ pub struct Rig {
     ghost room: { (lines_in device).pages ≤ (lines_in device).room },
 }
 
-/// Which operation of the flash fails or is cut, counted from 0.
-#[derive(Clone, Copy, Debug)]
-pub enum Fault {
-    Fail(u32),
-    /// With the mask of the cut.
-    Cut(u32, u32),
+/// The operation of the flash after so many others fails, or is cut by a mask.
+#[derive(Clone, Copy)]
+pub struct Fault {
+    pub after: u32,
+    pub mask: Option<u32>,
 }
 
 /// No operation of a test comes so late.
-pub const NO_FAULT: Fault = Fault::Fail(u32::MAX);
+pub const NO_FAULT: Fault = Fault {
+    after: u32::MAX,
+    mask: None,
+};
 
 fn plan_of(alloc: Global, fault: Fault) -> Result<Plan, NoMemory>
     ensures { IfOk result (λ plan. IsPlan (planned_of plan)) }
 {
-    match fault {
-        Fault::Fail(made) => Ok(Plan {
-            fail: vec![in alloc; u64::from(made) + 1]?,
+    let at = u64::from(fault.after) + 1;
+    match fault.mask {
+        None => Ok(Plan {
+            fail: vec![in alloc; at]?,
             cuts: Vec::new(alloc),
         }),
-        Fault::Cut(made, mask) => Ok(Plan {
+        Some(mask) => Ok(Plan {
             fail: Vec::new(alloc),
             cuts: vec![in alloc;
                 CutAt {
-                    at: u64::from(made) + 1,
+                    at,
                     mask,
                     arrive: 0,
                 },
@@ -91,10 +94,6 @@ impl Rig {
             Some(device) => Some(Rig { device }),
             None => None,
         }
-    }
-
-    pub fn device(&self) -> &Device<SimFlash> {
-        &self.device
     }
 
     pub fn is_resident(&self, page: u32) -> bool
@@ -156,14 +155,18 @@ impl Rig {
         Some(self.device.waiting())
     }
 
-    pub fn pin(&mut self, page: u32, on: bool) {
-        if self.is_resident(page) {
+    pub fn pin(&mut self, page: u32, on: bool) -> bool {
+        let is_resident = self.is_resident(page);
+        if is_resident {
             self.device.pin(PageNo(page), on);
         }
+        is_resident
     }
 
-    pub fn drain_one(&mut self) -> bool {
-        self.device.drain_one()
+    /// Whether a post waited, and how many wait then.
+    pub fn drain_one(&mut self) -> (bool, u32) {
+        let found = self.device.drain_one();
+        (found, self.device.waiting())
     }
 
     pub fn drain_all(&mut self) {
@@ -187,5 +190,30 @@ impl Rig {
 
     pub fn into_device(self) -> Device<SimFlash> {
         self.device
+    }
+
+    /// How many posts wait.
+    pub fn waiting(&self) -> u32 {
+        self.device.window().len()
+    }
+
+    /// Whether no flush is to be sealed, and no collection runs or is due.
+    pub fn rests(&self) -> bool {
+        !self.device.is_pending() && !self.device.wants_collect()
+    }
+
+    /// The reads, programs, seals and erases.
+    pub fn counts(&self) -> [u64; 4] {
+        let counts = self.device.store().counts();
+        [counts.reads, counts.programs, counts.seals, counts.erases]
+    }
+
+    /// Whether the operation failed, or was cut.
+    pub fn has_come(&self, fault: Fault) -> bool {
+        let flash = self.device.store().flash();
+        match fault.mask {
+            None => flash.fault_count() == 1,
+            Some(_) => !flash.is_on(),
+        }
     }
 }
