@@ -6,6 +6,7 @@ use super::{load, store};
 use ff_base::PageBuf;
 use ff_lines::Work;
 use std::alloc::Global;
+use std::process::Abort;
 use std::test::Fail;
 
 // The pages, and the bytes that are stored at their start.
@@ -61,15 +62,33 @@ fn store_all(rig: &mut Rig) -> Option<[u8; 5]> {
     Some(wanted)
 }
 
-// Whether the fault comes, and each page that was stored is left.
-fn leaves_what_is_stored(alloc: Global, buffer: &mut PageBuf, fault: Fault) -> bool {
-    let Some(mut rig) = Rig::new(alloc, &ONE_WAY, fault) else {
-        return false;
-    };
-    let wanted = store_all(&mut rig);
-    let has_come = rig.has_come(fault);
+// The first bytes that are left of the pages, where no post is lost.
+fn left(mut rig: Rig, buffer: &mut PageBuf) -> Option<[u8; 5]> {
     let lost = rig.arrive(1);
-    has_come && lost.is_none() && wanted == Some(bytes_left(rig.into_device(), buffer))
+    let bytes = bytes_left(rig.into_device(), buffer);
+    match lost {
+        Some(_) => None,
+        None => Some(bytes),
+    }
+}
+
+fn is_same(stored: Option<[u8; 5]>, left: Option<[u8; 5]>) -> bool {
+    match (stored, left) {
+        (Some(stored), Some(left)) => stored == left,
+        _ => false,
+    }
+}
+
+// Whether the fault comes, and what is stored is left.
+fn is_left(mut rig: Rig, buffer: &mut PageBuf, fault: Fault) -> bool {
+    let stored = store_all(&mut rig);
+    let has_come = rig.has_come(fault);
+    let left = left(rig, buffer);
+    has_come && is_same(stored, left)
+}
+
+fn rig_of(rt: &impl Abort, alloc: Global, fault: Fault) -> Rig {
+    Rig::new(alloc, &ONE_WAY, fault).expect(rt, "want of memory")
 }
 
 #[test]
@@ -78,8 +97,8 @@ fn each_fault_leaves_what_is_stored(rt: HostRuntime) -> Result<(), Fail> {
     for after in 0..OPERATIONS {
         for mask in [None, Some(0), Some(1), Some(3)] {
             let fault = Fault { after, mask };
-            let left = leaves_what_is_stored(rt.alloc(), &mut buffer, fault);
-            assert!(rt; left, "{mask:?} after {after}");
+            let rig = rig_of(&rt, rt.alloc(), fault);
+            assert!(rt; is_left(rig, &mut buffer, fault), "{mask:?} after {after}");
         }
     }
     Ok(())

@@ -1,7 +1,10 @@
 // A device with room for all its pages, whose calls see to it that they may be made.
-ghost use Rattle.std.specs.Prelude.{◌≡◌, ◌≤◌, IfOk, IfSome};
+ghost use Rattle.std.specs.Prelude.{◌≡◌, ◌<◌, ◌≤◌, [], IfOk, IfSome};
 ghost use Rattle.ff_base.specs.Geometry.{IsWithinLimits, capacity_of};
+ghost use Rattle.ff_cache.specs.Cache.{fresh_cache};
 ghost use Rattle.ff_flash.specs.Plans.{IsPlan, planned_of};
+ghost use Rattle.ff_flash.specs.SimFlash.{fresh_flash};
+ghost use Rattle.ff_store.specs.PageStore.{new_store};
 ghost use Rattle.ff_device.specs.Device.{lines_in};
 ghost use Rattle.ff_lines.specs.DeviceState.{HasRoom};
 
@@ -34,25 +37,73 @@ pub const NO_FAULT: Fault = Fault {
     mask: None,
 };
 
+fn failing(alloc: Global, at: u64) -> Result<Plan, NoMemory>
+    requires { 0 < at }
+    ensures { IfOk result (λ plan. IsPlan (planned_of plan)) }
+{
+    let fail = vec![in alloc; at]?;
+    Ok(Plan {
+        fail,
+        cuts: Vec::new(alloc),
+    })
+}
+
+fn cutting(alloc: Global, cut: CutAt) -> Result<Plan, NoMemory>
+    requires { 0 < cut.at }
+    ensures { IfOk result (λ plan. IsPlan (planned_of plan)) }
+{
+    let cuts = vec![in alloc; cut]?;
+    Ok(Plan {
+        fail: Vec::new(alloc),
+        cuts,
+    })
+}
+
 fn plan_of(alloc: Global, fault: Fault) -> Result<Plan, NoMemory>
     ensures { IfOk result (λ plan. IsPlan (planned_of plan)) }
 {
     let at = u64::from(fault.after) + 1;
     match fault.mask {
-        None => Ok(Plan {
-            fail: vec![in alloc; at]?,
-            cuts: Vec::new(alloc),
-        }),
-        Some(mask) => Ok(Plan {
-            fail: Vec::new(alloc),
-            cuts: vec![in alloc;
-                CutAt {
-                    at,
-                    mask,
-                    arrive: 0,
-                },
-            ]?,
-        }),
+        None => failing(alloc, at),
+        Some(mask) => cutting(
+            alloc,
+            CutAt {
+                at,
+                mask,
+                arrive: 0,
+            },
+        ),
+    }
+}
+
+#[derive(Drop)]
+struct Buffers {
+    cache: Cache,
+    window: Window,
+}
+
+fn fresh_buffers(alloc: Global, geometry: &Geometry) -> Result<Buffers, NoMemory>
+    requires { IsWithinLimits geometry.now }
+    ensures cache { IfOk result (λ buffers.
+        buffers.cache ≡ fresh_cache geometry.now.sets geometry.now.ways) }
+    ensures window { IfOk result (λ buffers.
+        buffers.window ≡ record { posts = []; room = geometry.now.window }) }
+{
+    Ok(Buffers {
+        cache: Cache::new(alloc, geometry)?,
+        window: Window::new(alloc, geometry.window)?,
+    })
+}
+
+fn fresh_store(alloc: Global, geometry: &Geometry, plan: Plan) -> Option<PageStore<SimFlash>>
+    requires limits { IsWithinLimits geometry.now }
+    requires plan { IsPlan (planned_of plan) }
+    ensures { IfSome result (λ store.
+        store ≡ new_store (fresh_flash geometry.now (planned_of plan)) geometry.now) }
+{
+    match SimFlash::new(alloc, geometry, plan) {
+        Ok(flash) => PageStore::new(alloc, flash, geometry).ok(),
+        Err(_) => None,
     }
 }
 
@@ -64,20 +115,9 @@ fn fresh_device(alloc: Global, geometry: &Geometry, plan: Plan) -> Option<Device
     requires plan { IsPlan (planned_of plan) }
     ensures { IfSome result (λ device. (lines_in device).pages ≤ (lines_in device).room) }
 {
-    let Ok(flash) = SimFlash::new(alloc, geometry, plan) else {
-        return None;
-    };
-    let Ok(store) = PageStore::new(alloc, flash, geometry) else {
-        return None;
-    };
-    let Ok(cache) = Cache::new(alloc, geometry) else {
-        return None;
-    };
-    let Ok(window) = Window::new(alloc, geometry.window) else {
-        return None;
-    };
-    match Device::new(alloc, store, cache, window) {
-        Ok(device) => Some(device),
+    let store = fresh_store(alloc, geometry, plan)?;
+    match fresh_buffers(alloc, geometry) {
+        Ok(buffers) => Device::new(alloc, store, buffers.cache, buffers.window).ok(),
         Err(_) => None,
     }
 }
