@@ -12,7 +12,7 @@ use std::test::Fail;
 // The first byte of a page, which is made resident.
 fn load(rig: &mut Rig, page: u32) -> Option<u8> {
     match rig.serve(page)? {
-        Work::Ready => rig.read(page, true).map(|line| line[0]),
+        Work::Ready => Some(rig.read(page, true)?[0]),
         _ => None,
     }
 }
