@@ -2,25 +2,30 @@
 use crate::Device;
 use ff_base::{PageBuf, PageNo, Ppn};
 use ff_cache::Cache;
-use ff_flash::{Flash, Probe, SimFlash};
+use ff_flash::{Flash, Probe, SimFlash, Spare};
 
-// The first byte and the version of a page's best sealed version, or zeros where it has none.
-fn best_of(flash: &mut SimFlash, page: u32, buffer: &mut PageBuf) -> (u8, u64) {
+// The spare of a sealed page, and its first byte.
+fn sealed_at(flash: &mut SimFlash, at: Ppn, buffer: &mut PageBuf) -> Option<(Spare, u8)> {
+    match flash.glance(at) {
+        Some(Probe::Sealed(spare)) if flash.operation_count() < 1 << 63 => {
+            flash.read(at, buffer).ok()?;
+            Some((spare, buffer.line(0)[0]))
+        }
+        _ => None,
+    }
+}
+
+// The first byte of a page's best sealed version, or 0 where it has none.
+fn best_of(flash: &mut SimFlash, page: u32, buffer: &mut PageBuf) -> u8 {
     let mut best = (0, 0);
     for at in 0..8 {
-        match flash.glance(Ppn(at)) {
-            Some(Probe::Sealed(spare))
-                if spare.page.0 == page
-                    && spare.version > best.1
-                    && flash.operation_count() < 1 << 63 => {
-                if flash.read(Ppn(at), buffer).is_ok() {
-                    best = (buffer.line(0)[0], spare.version);
-                }
+        if let Some((spare, byte)) = sealed_at(flash, Ppn(at), buffer) {
+            if spare.page == PageNo(page) && spare.version > best.0 {
+                best = (spare.version, byte);
             }
-            _ => {}
         }
     }
-    best
+    best.1
 }
 
 fn cached_byte(cache: &Cache, page: u32) -> Option<u8> {
@@ -38,9 +43,9 @@ pub fn bytes_left(device: Device<SimFlash>, buffer: &mut PageBuf) -> [u8; 5] {
     let mut flash = parts.store.into_flash();
     flash.power_up();
     let mut bytes = [0; 5];
-    for page in 0..5 {
-        let (stored, _) = best_of(&mut flash, page, buffer);
-        bytes[page as usize] = cached_byte(&parts.cache, page).unwrap_or(stored);
+    for (page, byte) in bytes.iter_mut().enumerate() {
+        let stored = best_of(&mut flash, page as u32, buffer);
+        *byte = cached_byte(&parts.cache, page as u32).unwrap_or(stored);
     }
     bytes
 }

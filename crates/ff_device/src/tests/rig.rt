@@ -1,7 +1,10 @@
 // A device with room for all its pages, whose calls see to it that they may be made.
-ghost use Rattle.std.specs.Prelude.{◌≡◌, ◌≤◌, IfOk, IfSome};
+ghost use Rattle.std.specs.Prelude.{◌≡◌, ◌<◌, ◌≤◌, [], IfOk, IfSome};
 ghost use Rattle.ff_base.specs.Geometry.{IsWithinLimits, capacity_of};
+ghost use Rattle.ff_cache.specs.Cache.{fresh_cache};
 ghost use Rattle.ff_flash.specs.Plans.{IsPlan, planned_of};
+ghost use Rattle.ff_flash.specs.SimFlash.{fresh_flash};
+ghost use Rattle.ff_store.specs.PageStore.{new_store};
 ghost use Rattle.ff_device.specs.Device.{lines_in};
 ghost use Rattle.ff_lines.specs.DeviceState.{HasRoom};
 
@@ -21,35 +24,86 @@ pub struct Rig {
     ghost room: { (lines_in device).pages ≤ (lines_in device).room },
 }
 
-/// Which operation of the flash fails or is cut, counted from 0.
-#[derive(Clone, Copy, Debug)]
-pub enum Fault {
-    Fail(u32),
-    /// With the mask of the cut.
-    Cut(u32, u32),
+/// The operation of the flash after so many others fails, or is cut by a mask.
+#[derive(Clone, Copy)]
+pub struct Fault {
+    pub after: u32,
+    pub mask: Option<u32>,
 }
 
 /// No operation of a test comes so late.
-pub const NO_FAULT: Fault = Fault::Fail(u32::MAX);
+pub const NO_FAULT: Fault = Fault {
+    after: u32::MAX,
+    mask: None,
+};
+
+fn failing(alloc: Global, at: u64) -> Result<Plan, NoMemory>
+    requires { 0 < at }
+    ensures { IfOk result (λ plan. IsPlan (planned_of plan)) }
+{
+    let fail = vec![in alloc; at]?;
+    Ok(Plan {
+        fail,
+        cuts: Vec::new(alloc),
+    })
+}
+
+fn cutting(alloc: Global, cut: CutAt) -> Result<Plan, NoMemory>
+    requires { 0 < cut.at }
+    ensures { IfOk result (λ plan. IsPlan (planned_of plan)) }
+{
+    let cuts = vec![in alloc; cut]?;
+    Ok(Plan {
+        fail: Vec::new(alloc),
+        cuts,
+    })
+}
 
 fn plan_of(alloc: Global, fault: Fault) -> Result<Plan, NoMemory>
     ensures { IfOk result (λ plan. IsPlan (planned_of plan)) }
 {
-    match fault {
-        Fault::Fail(made) => Ok(Plan {
-            fail: vec![in alloc; u64::from(made) + 1]?,
-            cuts: Vec::new(alloc),
-        }),
-        Fault::Cut(made, mask) => Ok(Plan {
-            fail: Vec::new(alloc),
-            cuts: vec![in alloc;
-                CutAt {
-                    at: u64::from(made) + 1,
-                    mask,
-                    arrive: 0,
-                },
-            ]?,
-        }),
+    let at = u64::from(fault.after) + 1;
+    match fault.mask {
+        None => failing(alloc, at),
+        Some(mask) => cutting(
+            alloc,
+            CutAt {
+                at,
+                mask,
+                arrive: 0,
+            },
+        ),
+    }
+}
+
+#[derive(Drop)]
+struct Buffers {
+    cache: Cache,
+    window: Window,
+}
+
+fn fresh_buffers(alloc: Global, geometry: &Geometry) -> Result<Buffers, NoMemory>
+    requires { IsWithinLimits geometry.now }
+    ensures cache { IfOk result (λ buffers.
+        buffers.cache ≡ fresh_cache geometry.now.sets geometry.now.ways) }
+    ensures window { IfOk result (λ buffers.
+        buffers.window ≡ record { posts = []; room = geometry.now.window }) }
+{
+    Ok(Buffers {
+        cache: Cache::new(alloc, geometry)?,
+        window: Window::new(alloc, geometry.window)?,
+    })
+}
+
+fn fresh_store(alloc: Global, geometry: &Geometry, plan: Plan) -> Option<PageStore<SimFlash>>
+    requires limits { IsWithinLimits geometry.now }
+    requires plan { IsPlan (planned_of plan) }
+    ensures { IfSome result (λ store.
+        store ≡ new_store (fresh_flash geometry.now (planned_of plan)) geometry.now) }
+{
+    match SimFlash::new(alloc, geometry, plan) {
+        Ok(flash) => PageStore::new(alloc, flash, geometry).ok(),
+        Err(_) => None,
     }
 }
 
@@ -61,20 +115,9 @@ fn fresh_device(alloc: Global, geometry: &Geometry, plan: Plan) -> Option<Device
     requires plan { IsPlan (planned_of plan) }
     ensures { IfSome result (λ device. (lines_in device).pages ≤ (lines_in device).room) }
 {
-    let Ok(flash) = SimFlash::new(alloc, geometry, plan) else {
-        return None;
-    };
-    let Ok(store) = PageStore::new(alloc, flash, geometry) else {
-        return None;
-    };
-    let Ok(cache) = Cache::new(alloc, geometry) else {
-        return None;
-    };
-    let Ok(window) = Window::new(alloc, geometry.window) else {
-        return None;
-    };
-    match Device::new(alloc, store, cache, window) {
-        Ok(device) => Some(device),
+    let store = fresh_store(alloc, geometry, plan)?;
+    match fresh_buffers(alloc, geometry) {
+        Ok(buffers) => Device::new(alloc, store, buffers.cache, buffers.window).ok(),
         Err(_) => None,
     }
 }
@@ -91,10 +134,6 @@ impl Rig {
             Some(device) => Some(Rig { device }),
             None => None,
         }
-    }
-
-    pub fn device(&self) -> &Device<SimFlash> {
-        &self.device
     }
 
     pub fn is_resident(&self, page: u32) -> bool
@@ -156,14 +195,18 @@ impl Rig {
         Some(self.device.waiting())
     }
 
-    pub fn pin(&mut self, page: u32, on: bool) {
-        if self.is_resident(page) {
+    pub fn pin(&mut self, page: u32, on: bool) -> bool {
+        let is_resident = self.is_resident(page);
+        if is_resident {
             self.device.pin(PageNo(page), on);
         }
+        is_resident
     }
 
-    pub fn drain_one(&mut self) -> bool {
-        self.device.drain_one()
+    /// Whether a post waited, and how many wait then.
+    pub fn drain_one(&mut self) -> (bool, u32) {
+        let found = self.device.drain_one();
+        (found, self.device.waiting())
     }
 
     pub fn drain_all(&mut self) {
@@ -187,5 +230,30 @@ impl Rig {
 
     pub fn into_device(self) -> Device<SimFlash> {
         self.device
+    }
+
+    /// How many posts wait.
+    pub fn waiting(&self) -> u32 {
+        self.device.window().len()
+    }
+
+    /// Whether no flush is to be sealed, and no collection runs or is due.
+    pub fn rests(&self) -> bool {
+        !self.device.is_pending() && !self.device.wants_collect()
+    }
+
+    /// The reads, programs, seals and erases.
+    pub fn counts(&self) -> [u64; 4] {
+        let counts = self.device.store().counts();
+        [counts.reads, counts.programs, counts.seals, counts.erases]
+    }
+
+    /// Whether the operation failed, or was cut.
+    pub fn has_come(&self, fault: Fault) -> bool {
+        let flash = self.device.store().flash();
+        match fault.mask {
+            None => flash.fault_count() == 1,
+            Some(_) => !flash.is_on(),
+        }
     }
 }
