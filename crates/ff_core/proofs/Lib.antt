@@ -22,6 +22,7 @@ pub mod MissFalls
 pub mod MissRuns
 pub mod MissSound
 pub mod MissedCalls
+pub mod Owning
 pub mod Powered
 pub mod Promotable
 pub mod Recounting

@@ -10,6 +10,7 @@ pub mod EventsLeft
 pub mod Fresh
 pub mod Hierarchy
 pub mod Log
+pub mod Losing
 pub mod Misses
 pub mod Performs
 pub mod Record

@@ -17,12 +17,14 @@ ghost use Rattle.ff_core.specs.Uncut.{StaysOn};
 
 mod driving;
 mod ending;
+mod losing;
 
 use crate::fresh::{FreshBack, fresh_state};
 use crate::log::{Back, Log};
 use crate::state::State;
 use crate::turn::Turn;
 pub use ending::Ended;
+pub use losing::Lost;
 use ff_base::{Caller, Geometry, PageNo};
 use ff_evict::{Pick, Picker};
 use ff_flash::Flash;

@@ -9,10 +9,10 @@ mod rules;
 use super::*;
 use ff_base::{Caller, Geometry, NoMemory, PageNo};
 use ff_evict::Picker;
-use ff_flash::{Plan, SimFlash};
+use ff_flash::{Flash, Plan, SimFlash};
 use ff_model::{Counts, Kind, Op, Piece, Reply};
 use ff_policy::Tuner;
-use rows::{ROWS, Row, Step};
+use rows::{LOSSES, ROWS, Row, Step};
 use rules::{ByDirty, ByHits};
 use std::alloc::Global;
 use std::test::Fail;
@@ -171,5 +171,24 @@ fn a_session_ends_in_its_record(rt: HostRuntime) -> Result<(), Fail> {
             .get(0)
             .is_some_and(|turn| turn.answer == Back::Idle)
     );
+    Ok(())
+}
+
+// How many posts arrive after which calls, how many entries are then kept, and which device accesses were counted.
+#[test]
+fn a_loss_of_power_keeps_what_arrived_and_was_acknowledged(rt: HostRuntime) -> Result<(), Fail> {
+    for row in &LOSSES {
+        let mut core = core_of(rt.alloc(), &ROWS[0])?;
+        assert!(rt; is_answered(&mut core, &Step::Mark(0)));
+        assert!(rt; is_answered(&mut core, &Step::Store(0, &[0xaa])));
+        if row.verified {
+            assert_eq!(rt; call(&mut core, &Op::Verify), Some(Reply::Done));
+        }
+        assert!(rt; is_answered(&mut core, &Step::Store(1, &[0xbb])));
+        let lost = core.power(row.arrive);
+        assert_eq!(rt; lost.account.kept(), row.kept);
+        assert_eq!(rt; lost.account.counts().device, 2);
+        assert!(rt; !lost.flash.is_on());
+    }
     Ok(())
 }

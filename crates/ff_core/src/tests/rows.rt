@@ -266,3 +266,34 @@ pub const ROWS: [Row; 10] = [
         },
     },
 ];
+
+/// A mark and two stores to one line, with a verify between them or not; how many of the waiting posts arrive; and how many
+/// entries are kept.
+pub struct Loss {
+    pub verified: bool,
+    pub arrive: u32,
+    pub kept: u32,
+}
+
+pub const LOSSES: [Loss; 4] = [
+    Loss {
+        verified: false,
+        arrive: 1,
+        kept: 2,
+    },
+    Loss {
+        verified: false,
+        arrive: 0,
+        kept: 1,
+    },
+    Loss {
+        verified: false,
+        arrive: 5,
+        kept: 3,
+    },
+    Loss {
+        verified: true,
+        arrive: 0,
+        kept: 3,
+    },
+];
