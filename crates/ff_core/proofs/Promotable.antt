@@ -1,11 +1,10 @@
 -- The least page that is hot and may come in, of those that were accessed.
-use Rattle.std.proofs.Common.{◌≡◌, ◌+◌, ◌<◌, ◌≤◌, ℕ, suc, Bool, true, false, inl, inr, List, [], ◌∷◌, ◌++◌, length, get_or, take, Option, Some, None, refl, sym, ap, ◌∙◌, subst, arith}
-use Rattle.std.specs.Prelude.{◌==◌, ◌||◌, MatchOption, nat_lt}
+use Rattle.std.proofs.Common.{◌≡◌, ◌+◌, ◌<◌, ◌≤◌, ℕ, zero, suc, Bool, true, false, inl, inr, List, [], ◌∷◌, ◌++◌, length, get_or, take, Option, Some, None, refl, sym, ap, ◌∙◌, subst, arith}
+use Rattle.std.specs.Prelude.{◌==◌, ◌||◌, MatchOption, nat_lt, unwrap_or}
 use Rattle.std.specs.List.{list_any}
 use Rattle.std.proofs.lemmas.Bool.{cases_Bool, cases_lt, eq-eqb, eqb-true, lt-ltb}
 use Rattle.std.proofs.lemmas.Bool.Decides.{nat_tests}
-use Rattle.std.proofs.lemmas.List.{get_or_past}
-use Rattle.std.proofs.Math.Option.{some-injective}
+use Rattle.std.proofs.lemmas.List.{get_or_past, take_more}
 use Rattle.std.proofs.Math.Bool.{or-true}
 use Rattle.std.proofs.lemmas.Option.{none-some}
 use Rattle.std.proofs.lemmas.List.Folds.{list_any-append}
@@ -41,8 +40,7 @@ least_more h pages (Some l) page result before (passes never is) = rw is (
 )
 least_more h pages None page result before (keeps other was most is) = absurd (none-some other was)
 least_more h pages (Some l) page result before (keeps least was most is) =
-    let same : l ≡ least = some-injective l least was in
-    let number = ap (λ (p : PageNo). p.0) same in
+    let number : l.0 ≡ least.0 = ap (λ (o : Option PageNo). (unwrap_or o l).0) was in
     rw is (
       before.0,
       λ other among may. among_more pages page other (l.0 ≤ other) among (λ in_front. before.1 other in_front may)
@@ -61,24 +59,31 @@ least_more h pages (Some l) page result before (takes may least is) =
           (λ was. let bound = before.1 other was can in omega arith) (λ same. omega arith),
     )
 
+pub least_at : {T E : Type 0} (h : HierarchyView T E) (pages : List PageNo) (i : ℕ) (d : PageNo) (least result : Option PageNo)
+    → i < length pages → IsLeastAmong h (take i pages) least → IsLesser h least (get_or pages i d) result
+    → IsLeastAmong h (take (i + 1) pages) result
+least_at h pages i d least result within before is =
+    rw (take_more pages i d within) (least_more h (take i pages) least (get_or pages i d) result before is)
+
 -- a page of these is among them
-among_at : (pages : List PageNo) (i : ℕ) (page : PageNo) → i < length pages → page ≡ get_or pages i page
-    → is_among pages page.0 ≡ true
-among_at [] i page within is = absurd (omega arith)
-among_at (first ∷ later) 0 page within is = rw (← is, eq-eqb page.0 page.0 refl) refl
-among_at (first ∷ later) (suc i) page within is =
-    rw (among_at later i page (omega arith) is) (or-true (first.0 == page.0))
+among_at : (pages : List PageNo) (i : ℕ) (d : PageNo) → i < length pages → is_among pages (get_or pages i d).0 ≡ true
+among_at [] i d within = absurd (omega arith)
+among_at (first ∷ later) zero d within = rw (eq-eqb first.0 first.0 refl) refl
+among_at (first ∷ later) (suc i) d within =
+    rw (among_at later i d (omega arith)) (or-true (first.0 == (get_or later i d).0))
 
 -- a page that was accessed is one of those that have a counter
-pub counted_within : (counters : List ℕ) (pages : List PageNo) (i : ℕ) (page : PageNo) → AreCounted counters pages
-    → i < length pages → page ≡ get_or pages i page → page.0 < length counters
-counted_within counters pages i page are within is = elim (cases_lt page.0 (length counters)) [
-  | inl fits ↦ fits
-  | inr past ↦
-      let none : get_or counters page.0 0 ≡ 0 = get_or_past counters page.0 0 past in
-      let some : nat_lt 0 (get_or counters page.0 0) ≡ true = sym (are.counted page.0) ∙ among_at pages i page within is in
-      absurd (let both : nat_lt 0 0 ≡ true = ap (nat_lt 0) (sym none) ∙ some in cc)
-]
+pub counted_within : (counters : List ℕ) (pages : List PageNo) (i : ℕ) (d : PageNo) → AreCounted counters pages
+    → i < length pages → (get_or pages i d).0 < length counters
+counted_within counters pages i d are within =
+    let page = get_or pages i d in
+    elim (cases_lt page.0 (length counters)) [
+      | inl fits ↦ fits
+      | inr past ↦
+          let none : get_or counters page.0 0 ≡ 0 = get_or_past counters page.0 0 past in
+          let some : nat_lt 0 (get_or counters page.0 0) ≡ true = sym (are.counted page.0) ∙ among_at pages i d within in
+          absurd (let both : nat_lt 0 0 ≡ true = ap (nat_lt 0) (sym none) ∙ some in cc)
+    ]
 
 -- a page that may come in was accessed
 promotable_among : {T E : Type 0} (h : HierarchyView T E) (pages : List PageNo) (page : ℕ) → IsPolicySound h.policy

@@ -1,5 +1,5 @@
 -- The items of a session's calls and turns, one after the other.
-use Rattle.std.proofs.Common.{◌≡◌, ◌≤◌, ◌+◌, ℕ, suc, Bool, true, false, List, [], ◌∷◌, ◌++◌, length, refl, sym, ap, ◌∙◌, subst, arith}
+use Rattle.std.proofs.Common.{◌≡◌, ◌≤◌, ◌+◌, ℕ, zero, suc, Bool, true, false, List, [], ◌∷◌, ◌++◌, length, refl, sym, ap, ◌∙◌, subst, arith}
 use Rattle.std.specs.Prelude.{count_by, replicate, sum_by}
 use Rattle.std.specs.List.{flat_map}
 use Rattle.std.proofs.lemmas.List.Sums.{sum_by-append}
@@ -37,11 +37,11 @@ count_append p xs ys = sum_by-append (λ x. cond (p x) 1 0) xs ys
 
 -- a row of turns is so many
 pub turns_counted : (count : ℕ) (kind : Kind) → count_by is_turn (replicate count (turn kind)) ≡ count
-turns_counted 0 kind = refl
+turns_counted zero kind = refl
 turns_counted (suc count) kind = let rest = turns_counted count kind in omega arith
 
 pub turns_uncalled : (count : ℕ) (kind : Kind) → count_by is_call (replicate count (turn kind)) ≡ 0
-turns_uncalled 0 kind = refl
+turns_uncalled zero kind = refl
 turns_uncalled (suc count) kind = let rest = turns_uncalled count kind in omega arith
 
 row_calls : (row : Row) → count_by is_call (row_items row) ≤ 1

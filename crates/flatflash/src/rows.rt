@@ -17,6 +17,7 @@ use ff_policy::Tune;
 use ff_trace::{CALLERS, Row};
 
 /// Makes the calls and turns of the rows in their order. Each caller's calls are numbered from 0.
+#[tactic(auto, using(crate::proofs::Rows::opened_none, crate::proofs::Rows::made_of))]
 pub fn make_rows<F: Flash, T: Tune, E: Pick>(core: &mut Core<F, T, E>, rows: &[Row])
     requires run { AreRun rows.now }
     requires powered { IsPowered core.old }
@@ -30,6 +31,7 @@ pub fn make_rows<F: Flash, T: Tune, E: Pick>(core: &mut Core<F, T, E>, rows: &[R
 }
 
 // The same, over the numbers of the callers' next calls.
+#[tactic(auto, using(crate::proofs::Making::went_none, crate::proofs::Rows::rows_all, crate::proofs::Rows::rows_more, crate::proofs::Rows::room_row, crate::proofs::Rows::run_at))]
 fn make_each<F: Flash, T: Tune, E: Pick>(
     core: &mut Core<F, T, E>,
     numbers: &mut [u32],
@@ -58,6 +60,7 @@ fn make_row<F: Flash, T: Tune, E: Pick>(core: &mut Core<F, T, E>, numbers: &mut 
     }
 }
 
+#[tactic(auto, using(crate::proofs::Making::went_call, crate::proofs::Numbers::few_of))]
 fn make_call<F: Flash, T: Tune, E: Pick>(
     core: &mut Core<F, T, E>,
     numbers: &mut [u32],
@@ -76,6 +79,7 @@ fn make_call<F: Flash, T: Tune, E: Pick>(
 }
 
 // Makes so many turns of a kind. They leave the numbers of the callers' next calls.
+#[tactic(auto, using(crate::proofs::Making::went_none, crate::proofs::Making::went_turns, crate::proofs::Making::spare_turn))]
 fn make_turns<F: Flash, T: Tune, E: Pick>(
     core: &mut Core<F, T, E>,
     numbers: &[u32],
@@ -91,6 +95,7 @@ fn make_turns<F: Flash, T: Tune, E: Pick>(
     }
 }
 
+#[tactic(auto, using(crate::proofs::Making::went_turn))]
 fn make_turn<F: Flash, T: Tune, E: Pick>(core: &mut Core<F, T, E>, numbers: &[u32], kind: Kind)
     requires opened { IsOpen core.old numbers.now }
     requires room { 0 < spare_turns core.old }

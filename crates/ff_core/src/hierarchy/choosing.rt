@@ -79,7 +79,6 @@ impl<F: Flash, T: Tune, E: Pick> Hierarchy<F, T, E> {
     }
 
     // The least of these pages that is hot and may come in.
-    #[tactic(auto, using(crate::proofs::Promotable::counted_within, crate::proofs::Promotable::least_more))]
     fn least_of(&self, pages: &[PageNo]) -> Option<PageNo>
         requires counters { length self.now.policy.counters ≡ length self.now.memory.table.homes }
         requires counted { AreCounted self.now.policy.counters pages.now }
