@@ -3,6 +3,7 @@ pub mod AskedPages
 pub mod Attempts
 pub mod BackSound
 pub mod Beginning
+pub mod CachedOver
 pub mod Counting
 pub mod DriveEvents
 pub mod Driving
@@ -14,6 +15,7 @@ pub mod KeptSets
 pub mod KeptSteps
 pub mod LinesLeft
 pub mod LogCounts
+pub mod Losing
 pub mod MarkFalls
 pub mod Marked
 pub mod Mays
@@ -24,6 +26,7 @@ pub mod MissSound
 pub mod MissedCalls
 pub mod Owning
 pub mod Powered
+pub mod PoweredDown
 pub mod Promotable
 pub mod Recounting
 pub mod RestFalls

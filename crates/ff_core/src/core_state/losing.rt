@@ -51,7 +51,7 @@ impl<F: Flash, T: Tune, E: Pick> Core<F, T, E> {
     }
 }
 
-#[tactic(auto, using(crate::proofs::Losing::lost_sound, crate::proofs::Losing::loss_of, crate::proofs::Losing::flash_off))]
+#[tactic(auto, using(crate::proofs::Losing::lost_sound, crate::proofs::PoweredDown::flash_off))]
 fn lose<F: Flash, T: Tune, E: Pick>(state: State<F, T, E>, arrive: u32) -> Lost<F, T, E>
     requires sound { IsCoreSound state }
     requires memory { IsMemorySound state.hierarchy.memory }

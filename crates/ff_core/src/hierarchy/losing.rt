@@ -22,6 +22,7 @@ pub(crate) struct Left<F: Flash, T: Tune, E: Pick> {
 }
 
 // So many of the oldest posts arrive, and the power goes off. Of so many entries, how many are kept.
+#[tactic(auto, using(crate::proofs::PoweredDown::first_kept))]
 fn power_down<F: Flash>(device: &mut Device<F>, arrive: u32, entries: u32) -> u32
     ensures kept { result ≡ kept_length (drop arrive device.old.window.posts) entries }
     ensures down { IsPoweredDown arrive device.old device.new }
