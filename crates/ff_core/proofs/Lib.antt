@@ -5,6 +5,7 @@ pub mod BackSound
 pub mod Beginning
 pub mod CachedOver
 pub mod Counting
+pub mod CutPower
 pub mod DriveEvents
 pub mod Driving
 pub mod Ending

@@ -17,7 +17,7 @@ use Rattle.ff_map.specs.declared.places.Mapping.{Mapping}
 use Rattle.ff_store.specs.PageStore.{IsStoreSound, PageStoreView}
 use Rattle.ff_store.specs.Recoverable.{IsRecoverable}
 use Rattle.ff_window.specs.Window.{first_position}
-use Rattle.ff_core.specs.Losing.{IsPoweredDown}
+use Rattle.ff_core.specs.Losing.{IsPoweredDown, device_off}
 
 kept_by : (position next : Option ℕ) (entries kept : ℕ) → unwrap_or next entries ≡ kept
     → unwrap_or (option_or position next) entries ≡ unwrap_or position kept
@@ -41,13 +41,6 @@ pub off_same : {X : Type 0} (field : FlashState → X) (flash : FlashState) → 
     → field (powered_off flash) ≡ field flash
 off_same field flash same = off_by field flash flash.on same
 
-abbrev store_off : PageStoreView → PageStoreView
-store_off s = record s { world = record s.world { flash = powered_off s.world.flash } }
-
--- the device with its power off
-abbrev device_off : DeviceView → DeviceView
-device_off d = record d { store = store_off d.store }
-
 below_off : (d : DeviceView) (page line : ℕ) → line_below (parts_of (device_off d)) page line ≡ line_below (parts_of d) page line
 below_off d page line =
     ap (λ (cells : List Cell). line_or_blank (bytes_over (cached (parts_of d) page)
@@ -65,7 +58,7 @@ powered_down arrive old mid new posts below own is device store recoverable cach
   posts = ap (λ (d : DeviceView). d.window.posts) is ∙ posts;
   below = λ page line.
       ap (λ (d : DeviceView). line_below (parts_of d) page line) is ∙ below_off mid page line ∙ below page line;
-  own = ap own_of is ∙ ap (λ (o : DeviceOwn PageStoreView). record o { store = store_off o.store }) own;
+  own = ap own_of is ∙ ap (λ (o : DeviceOwn PageStoreView). record o { store = record o.store { world = record o.store.world { flash = powered_off o.store.world.flash } } }) own;
   device = device;
   store = store;
   recoverable = recoverable;

@@ -22,16 +22,26 @@ use Rattle.ff_core.specs.Core.{CoreView}
 use Rattle.ff_core.specs.Hierarchy.{HierarchyView}
 use Rattle.ff_core.specs.Record.{RecordView}
 
+-- a device with its power off
+abbrev pub device_off : DeviceView → DeviceView
+device_off d = record d {
+  store = record d.store {
+    world = record d.store.world { flash = powered_off d.store.world.flash };
+  };
+}
+
+-- a core with its power off
+abbrev pub core_off : {T E : Type 0} → CoreView T E → CoreView T E
+core_off core = record core {
+  hierarchy = record core.hierarchy { device = device_off core.hierarchy.device };
+}
+
 -- the power went off after so many of the oldest posts had arrived, and the others are lost
 pub record IsPoweredDown (arrive : ℕ) (old new : DeviceView) : Type 0 where
   pub posts : new.window.posts ≡ []
   pub below : (page line : ℕ) → line_below (parts_of new) page line
       ≡ laid page line (take arrive old.window.posts) (line_below (parts_of old) page line)
-  pub own : own_of new ≡ own_of (record old {
-    store = record old.store {
-      world = record old.store.world { flash = powered_off old.store.world.flash };
-    };
-  })
+  pub own : own_of new ≡ own_of (device_off old)
   pub device : IsDeviceSound (parts_of new)
   pub store : IsStoreSound new.store
   pub recoverable : IsRecoverable new.store

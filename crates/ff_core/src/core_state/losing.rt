@@ -6,7 +6,7 @@ ghost use Rattle.ff_memory.specs.Memory.{IsMemorySound};
 ghost use Rattle.ff_core.specs.Account.{IsAccountOf, start_of};
 ghost use Rattle.ff_core.specs.CoreSound.{IsCoreSound};
 ghost use Rattle.ff_core.specs.Hierarchy.{flash_under, lines_under};
-ghost use Rattle.ff_core.specs.Losing.{IsLossOf, kept_after};
+ghost use Rattle.ff_core.specs.Losing.{IsLossOf, core_off, kept_after};
 ghost use Rattle.ff_core.specs.Record.{record_of};
 
 use super::Core;
@@ -31,6 +31,15 @@ pub struct Lost<F: Flash, T: Tune, E: Pick> {
 }
 
 impl<F: Flash, T: Tune, E: Pick> Core<F, T, E> {
+    /// Turns the power off between two events. Nothing else changes.
+    #[tactic(auto, using(crate::proofs::CutPower::core_off_sound))]
+    pub fn cut_power(&mut self)
+        ensures { self.new ≡ core_off self.old }
+    {
+        self.parts_known();
+        self.state.hierarchy.device.power_off();
+    }
+
     /// Ends the session by a loss of power, at which the oldest `arrive` of the waiting posts arrive and the others are
     /// lost. It takes no memory.
     #[tactic(auto, using(crate::proofs::Losing::lost_account))]
