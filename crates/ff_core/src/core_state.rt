@@ -24,13 +24,13 @@ use crate::log::{Back, Log};
 use crate::state::State;
 use crate::turn::Turn;
 pub use ending::Ended;
-pub use losing::Lost;
 use ff_base::{Caller, Geometry, PageNo};
 use ff_evict::{Pick, Picker};
 use ff_flash::Flash;
 use ff_lines::LineDevice;
 use ff_model::{Counts, History, Kind, Op};
 use ff_policy::{Tune, Tuner};
+pub use losing::Lost;
 use std::alloc::Global;
 use std::marker::Model;
 
