@@ -39,5 +39,6 @@ pub mod Tallied
 pub mod Timing
 pub mod TurnSound
 pub mod Turning
+pub mod Until
 pub mod WorkFalls
 pub mod Yielding

@@ -65,6 +65,14 @@ powered_down arrive old mid new posts below own is device store recoverable cach
   cache = cache;
 }
 
+off_down_by : (flash : FlashState) (on : Bool) → flash.on ≡ on
+    → (cond on (record flash { on = false; cut = false }) flash).on ≡ false
+off_down_by flash true is = refl
+off_down_by flash false is = is
+
+pub off_down : (flash : FlashState) → (powered_off flash).on ≡ false
+off_down flash = off_down_by flash flash.on refl
+
 -- the flash went off, and nothing else changed in it
 pub flash_off : (arrive : ℕ) (old new : DeviceView) → IsPoweredDown arrive old new
     → new.store.world.flash ≡ powered_off old.store.world.flash

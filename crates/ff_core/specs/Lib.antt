@@ -19,3 +19,4 @@ pub mod Serving
 pub mod Tally
 pub mod Turns
 pub mod Uncut
+pub mod Until
