@@ -41,13 +41,7 @@ impl<F: Flash, T: Tune, E: Pick> Core<F, T, E> {
 
     /// As `drive`, but where the event number is `stop` before one of its events, it cuts the power and answers `Off`.
     #[tactic(auto, using(crate::proofs::Driving::core_few, crate::proofs::Driving::few_blocks, crate::proofs::Driving::driven_none, crate::proofs::Until::until_none))]
-    pub fn drive_until(
-        &mut self,
-        caller: Caller,
-        number: u32,
-        op: &Op,
-        stop: Option<u64>,
-    ) -> Driven
+    pub fn drive_until(&mut self, caller: Caller, number: u32, op: &Op, stop: Option<u64>) -> Driven
         requires spare { 0 < spare_calls self.old }
         ensures driven { IsDriven self.old caller number op.now result self.new }
         ensures until { IsDrivenUntil stop self.old caller number op.now result self.new }
