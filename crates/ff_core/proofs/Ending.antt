@@ -1,5 +1,5 @@
 -- What the record of a session keeps.
-use Rattle.std.proofs.Common.{◌≡◌, ◌≤◌, ◌+◌, ◌*◌, ℕ, mul_comm, subst, refl, sym, ap, ◌∙◌, arith}
+use Rattle.std.proofs.Common.{◌≡◌, ◌≤◌, ◌+◌, ◌*◌, ℕ, length, subst, mul_comm, refl, sym, ap, ◌∙◌, arith}
 use Rattle.ff_model.specs.Legal.{IsLegal, Opening, next_event}
 use Rattle.ff_policy.specs.Policy.{IsPolicySound}
 use Rattle.ff_store.specs.PageStore.{IsStoreSound}
@@ -9,14 +9,14 @@ use Rattle.ff_core.specs.CoreSound.{IsCoreSound}
 use Rattle.ff_core.specs.Hierarchy.{flash_under}
 use Rattle.ff_core.specs.Record.{IsRecordSound, opening_from, record_of}
 
-opening_is : {T E : Type 0} → (core : CoreView T E) → IsCoreSound core
-    → core.opening ≡ opening_from core.opening.base (record_of core)
-opening_is core sound = let p = sound.sized.pages in let c = sound.sized.capacity in rw (← p, ← c) refl
+opening_is : {T E : Type 0} → (core : CoreView T E) (kept : ℕ) → IsCoreSound core
+    → core.opening ≡ opening_from core.opening.base (record_of core kept)
+opening_is core kept sound = let p = sound.sized.pages in let c = sound.sized.capacity in rw (← p, ← c) refl
 
-pub record_sound : {T E : Type 0} → (core : CoreView T E) → IsCoreSound core
-    → IsRecordSound (record_of core)
-record_sound core sound =
-    let is = opening_is core sound in
+pub record_sound : {T E : Type 0} → (core : CoreView T E) (kept : ℕ) → IsCoreSound core → kept ≤ length core.history.entries
+    → IsRecordSound (record_of core kept)
+record_sound core kept sound few =
+    let is = opening_is core kept sound in
     let told = sound.counted.faults in
     record {
       base = core.opening.base;
@@ -26,6 +26,7 @@ record_sound core sound =
       served = sound.counted.served;
       promotions = sound.counted.promotions;
       faults = omega arith;
+      kept = few;
     }
 
 -- the promotions were paid for by the accesses of the device
@@ -34,11 +35,11 @@ paid_for : (sum floor promotions accesses promoted device : ℕ) → sum + floor
 paid_for sum floor promotions accesses promoted device paid is counted =
     rw (← is, ← counted) (let commuted = mul_comm promotions floor in omega arith)
 
-pub account_of : {T E : Type 0} → (core : CoreView T E) → IsCoreSound core → IsStoreSound core.hierarchy.device.store
+pub account_of : {T E : Type 0} → (core : CoreView T E) (kept : ℕ) → IsCoreSound core → IsStoreSound core.hierarchy.device.store
     → IsPolicySound core.hierarchy.policy
-    → IsAccountOf core.geometry core.hierarchy.policy.tuner.floor (start_of core) (record_of core) (flash_under core.hierarchy)
-account_of core sound store policy =
-    let is = opening_is core sound in
+    → IsAccountOf core.geometry core.hierarchy.policy.tuner.floor (start_of core) (record_of core kept) (flash_under core.hierarchy)
+account_of core kept sound store policy =
+    let is = opening_is core kept sound in
     let counted = sound.counted in
     let kinds = counted.kinds in
     let faults = counted.faults in

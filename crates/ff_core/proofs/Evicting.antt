@@ -1,7 +1,7 @@
 -- The page of the evictor's frame goes back.
 use Rattle.std.proofs.Common.{◌≡◌, ℕ, ◌+◌, ◌%◌, length, Some, sym, ap, subst, ◌∙◌}
 use Rattle.ff_base.specs.declared.numbers.PageNo.{PageNo}
-use Rattle.ff_device.specs.Device.{DeviceView, lines_in}
+use Rattle.ff_device.specs.Device.{DeviceView, lines_in, own_of}
 use Rattle.ff_frames.specs.Frames.{frame_at}
 use Rattle.ff_memory.specs.Begins.{IsRetreated}
 use Rattle.ff_memory.specs.Located.{IsLocated}
@@ -40,7 +40,7 @@ evicted {T = T} {E = E} page frame h mid h' progress holds began passed located 
       moved = record {
         located = located;
         places = λ p line low. places p line low ∙ began.moved.places p line low;
-        store = ap (λ (d : DeviceView). d.store) device ∙ began.moved.store;
+        own = ap own_of device ∙ began.moved.own;
       };
       rest = rest ∙ (cc);
     }

@@ -3,7 +3,9 @@ pub mod AskedPages
 pub mod Attempts
 pub mod BackSound
 pub mod Beginning
+pub mod CachedOver
 pub mod Counting
+pub mod CutPower
 pub mod DriveEvents
 pub mod Driving
 pub mod Ending
@@ -14,6 +16,7 @@ pub mod KeptSets
 pub mod KeptSteps
 pub mod LinesLeft
 pub mod LogCounts
+pub mod Losing
 pub mod MarkFalls
 pub mod Marked
 pub mod Mays
@@ -22,7 +25,9 @@ pub mod MissFalls
 pub mod MissRuns
 pub mod MissSound
 pub mod MissedCalls
+pub mod Owning
 pub mod Powered
+pub mod PoweredDown
 pub mod Promotable
 pub mod Recounting
 pub mod RestFalls
@@ -34,5 +39,6 @@ pub mod Tallied
 pub mod Timing
 pub mod TurnSound
 pub mod Turning
+pub mod Until
 pub mod WorkFalls
 pub mod Yielding

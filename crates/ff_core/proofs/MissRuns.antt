@@ -15,6 +15,7 @@ use Rattle.ff_core.specs.Performs.{HasRetreated, IsAdvanced, IsDeviceStep, IsTur
 use Rattle.ff_core.specs.declared.action.Action.{Action}
 use Rattle.ff_core.specs.declared.action.Progress.{Progress}
 use Rattle.ff_core.specs.declared.action.Progress.TheVariants.{Off}
+use Rattle.ff_core.proofs.Owning.{own_store}
 
 -- what a step leaves of a hierarchy, and what it makes of its flash
 pub record RunsStep {T E : Type 0} (h : HierarchyView T E) (progress : Progress) (h' : HierarchyView T E) : Type 0 where
@@ -52,19 +53,19 @@ still_runs h progress h' store policy evictor off = record {
 advanced_runs : {T E : Type 0} (slot : ℕ) (h : HierarchyView T E) (progress : Progress) (h' : HierarchyView T E)
     → IsAdvanced slot h progress h' → RunsStep h progress h'
 advanced_runs {T = T} {E = E} slot h progress h' is =
-    still_runs h progress h' is.moved.store (ap (λ (g : HierarchyView T E). g.policy) is.rest)
+    still_runs h progress h' (own_store h.device h'.device is.moved.own) (ap (λ (g : HierarchyView T E). g.policy) is.rest)
     (ap (λ (g : HierarchyView T E). g.evictor) is.rest) (λ off. let did = sym is.did ∙ off in absurd (cc))
 
 turned_runs : {T E : Type 0} (slot : ℕ) (h : HierarchyView T E) (progress : Progress) (h' : HierarchyView T E)
     → IsTurnedBack slot h progress h' → RunsStep h progress h'
 turned_runs {T = T} {E = E} slot h progress h' is =
-    still_runs h progress h' is.moved.store (ap (λ (g : HierarchyView T E). g.policy) is.rest)
+    still_runs h progress h' (own_store h.device h'.device is.moved.own) (ap (λ (g : HierarchyView T E). g.policy) is.rest)
     (ap (λ (g : HierarchyView T E). g.evictor) is.rest) (λ off. let did = sym is.did ∙ off in absurd (cc))
 
 retreated_runs : {T E : Type 0} (page : ℕ) (h : HierarchyView T E) (progress : Progress) (h' : HierarchyView T E)
     → HasRetreated page h progress h' → RunsStep h progress h'
 retreated_runs {T = T} {E = E} page h progress h' is =
-    still_runs h progress h' is.moved.store (ap (λ (g : HierarchyView T E). g.policy) is.rest)
+    still_runs h progress h' (own_store h.device h'.device is.moved.own) (ap (λ (g : HierarchyView T E). g.policy) is.rest)
     (ap (λ (g : HierarchyView T E). g.evictor) is.rest) (λ off. let did = sym is.did ∙ off in absurd (cc))
 
 -- a step of work that came to the power's being off

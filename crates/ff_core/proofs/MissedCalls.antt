@@ -3,6 +3,8 @@ use Rattle.std.proofs.Common.{◌≡◌, ◌<◌, ℕ, length, None, sym, ap, su
 use Rattle.ff_base.specs.declared.numbers.PageNo.{PageNo}
 use Rattle.ff_calls.proofs.ToldMissed.{Finds, miss-finds}
 use Rattle.ff_calls.specs.Told.{IsTold}
+use Rattle.ff_device.specs.Device.{parts_of}
+use Rattle.ff_device.specs.Parts.{SameShape}
 use Rattle.ff_lines.specs.DeviceState.{DeviceState}
 use Rattle.ff_memory.specs.Memory.{MemoryView}
 use Rattle.ff_memory.specs.declared.access.Access.TheVariants.{Miss}
@@ -18,12 +20,14 @@ use Rattle.ff_core.specs.Turns.{refusal}
 use Rattle.ff_core.specs.declared.action.Action.{Action}
 use Rattle.ff_core.proofs.AskedPages.{named-page}
 use Rattle.ff_core.proofs.Mays.{help-may}
+use Rattle.ff_core.proofs.Owning.{own_shape}
 
 -- nothing that a core keeps facts of was changed
 pub record IsLeft {T E : Type 0} (h h' : HierarchyView T E) : Type 0 where
   pub memory : h'.memory ≡ h.memory
   pub lines : lines_under h' ≡ lines_under h
   pub store : h'.device.store ≡ h.device.store
+  pub shape : SameShape (parts_of h.device) (parts_of h'.device)
   pub policy : h'.policy ≡ h.policy
   pub evictor : h'.evictor ≡ h.evictor
 
@@ -35,6 +39,8 @@ left-sized core h left is = record {
   capacity = is.capacity;
   window = ap (λ (d : DeviceState). d.most_posts) left.lines ∙ is.window;
   steps = ap (λ (d : DeviceState). d.most_steps) left.lines ∙ is.steps;
+  sets = left.shape.sets ∙ is.sets;
+  ways = left.shape.ways ∙ is.ways;
   counters = rw left.policy is.counters;
   frames = rw left.memory is.frames;
   slots = rw left.memory is.slots;
@@ -121,6 +127,7 @@ missed-call core op position page h sound none is =
       memory = found.memory;
       lines = found.device;
       store = is.store;
+      shape = own_shape core.hierarchy.device h.device is.own;
       policy = ap (λ (v : HierarchyView _ _). v.policy) is.rest;
       evictor = ap (λ (v : HierarchyView _ _). v.evictor) is.rest;
     } in

@@ -33,6 +33,7 @@ use Rattle.ff_core.specs.declared.log.Back.TheVariants.{Idle, Spent, Off as Back
 use Rattle.ff_core.specs.declared.turn.Turn.{Turn}
 use Rattle.ff_core.proofs.DriveEvents.{next_few}
 use Rattle.ff_core.proofs.MissRuns.{store_same}
+use Rattle.ff_core.proofs.Owning.{own_store}
 use Rattle.ff_core.proofs.Running.{Runs, performs-runs}
 
 -- the power stayed on from one flash to the next, and from that to a third
@@ -108,7 +109,7 @@ left_called {T = T} {E = E} h stop h' on calls rest =
 left_advanced : {T E : Type 0} (slot : ℕ) (h : HierarchyView T E) (progress : Progress) (h' : HierarchyView T E)
     → IsAdvanced slot h progress h' → Leaves h h'
 left_advanced {T = T} {E = E} slot h progress h' is =
-    left_still h h' is.moved.store (ap (λ (g : HierarchyView T E). g.policy.tuner) is.rest)
+    left_still h h' (own_store h.device h'.device is.moved.own) (ap (λ (g : HierarchyView T E). g.policy.tuner) is.rest)
     (ap (λ (g : HierarchyView T E). g.evictor.picker) is.rest)
 
 left_worked : {T E : Type 0} (page : ℕ) (h : HierarchyView T E) (progress : Progress) (h' : HierarchyView T E)
@@ -120,21 +121,21 @@ performs_leaves : {T E : Type 0} (action : Action) (h : HierarchyView T E) (prog
     → (flash_under h).on ≡ true → Performs action h progress h' → Leaves h h'
 performs_leaves (Advance slot) h progress h' on is = left_advanced slot h progress h' is
 performs_leaves {T = T} {E = E} (TurnBack slot) h progress h' on is =
-    left_still h h' is.moved.store (ap (λ (g : HierarchyView T E). g.policy.tuner) is.rest)
+    left_still h h' (own_store h.device h'.device is.moved.own) (ap (λ (g : HierarchyView T E). g.policy.tuner) is.rest)
     (ap (λ (g : HierarchyView T E). g.evictor.picker) is.rest)
 performs_leaves (Work page) h progress h' on is = left_worked page.0 h progress h' on is
 performs_leaves {T = T} {E = E} (Promote page) h progress h' on is =
-    left_still h h' is.moved.store (ap (λ (g : HierarchyView T E). g.policy.tuner) is.rest)
+    left_still h h' (own_store h.device h'.device is.moved.own) (ap (λ (g : HierarchyView T E). g.policy.tuner) is.rest)
     (ap (λ (g : HierarchyView T E). g.evictor.picker) is.rest)
 performs_leaves {T = T} {E = E} (Retreat page) h progress h' on is =
-    left_still h h' is.moved.store (ap (λ (g : HierarchyView T E). g.policy.tuner) is.rest)
+    left_still h h' (own_store h.device h'.device is.moved.own) (ap (λ (g : HierarchyView T E). g.policy.tuner) is.rest)
     (ap (λ (g : HierarchyView T E). g.evictor.picker) is.rest)
 performs_leaves {T = T} {E = E} (Evict frame) h progress h' on is =
-    left_still h h' is.moved.store (ap (λ (g : HierarchyView T E). g.policy.tuner) is.rest)
+    left_still h h' (own_store h.device h'.device is.moved.own) (ap (λ (g : HierarchyView T E). g.policy.tuner) is.rest)
     (ap (λ (g : HierarchyView T E). g.evictor.picker) is.rest)
 performs_leaves Collect h progress h' on is = left_called h _ h' on is.calls is.rest
 performs_leaves {T = T} {E = E} Drain h progress h' on is =
-    left_still h h' is.store (ap (λ (g : HierarchyView T E). g.policy.tuner) is.rest)
+    left_still h h' (own_store h.device h'.device is.own) (ap (λ (g : HierarchyView T E). g.policy.tuner) is.rest)
     (ap (λ (g : HierarchyView T E). g.evictor.picker) is.rest)
 
 -- what a background turn leaves, and that the power stays on

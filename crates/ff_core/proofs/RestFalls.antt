@@ -29,6 +29,7 @@ use Rattle.ff_core.specs.declared.action.Progress.TheVariants.{Did}
 use Rattle.ff_core.proofs.EntrySteps.{IsStepped, entry_step, stepped_slot}
 use Rattle.ff_core.proofs.LinesLeft.{entry_most}
 use Rattle.ff_core.proofs.MarkFalls.{away_is, events_at_most, left_falls, turned_falls}
+use Rattle.ff_core.proofs.Owning.{own_store}
 use Rattle.ff_core.proofs.WorkFalls.{IsStepGiven, events_most, slot_most, step_leaves, worked_falls, worked_leaves}
 
 some_of : (found : Option Slot) → (found ≡ None → ⊥) → is_some found ≡ true
@@ -89,7 +90,7 @@ waited_falls page h progress h' given none busy away is =
     let slot : slot_steps (slot_at h'.memory.slots 0) ≡ slot_steps s.step.after =
     ap slot_steps (stepped_slot 0 entry h.memory h'.memory s) in
     let fewer : slot_steps s.step.after < entry_steps entry = s.step.fewer in
-    let same : most_events_to h' ≡ most_events_to h = rw is.moved.store refl in
+    let same : most_events_to h' ≡ most_events_to h = rw (own_store h.device h'.device is.moved.own) refl in
     let before : home_events h page ≡ slot_steps (slot_at h.memory.slots 0) + (most_events_to h + (most_slot_steps + 1)) =
     away_is h page away ∙ ap (λ (e : Option Slot). entry_events e h page) none
     ∙ ap (λ (full : Bool). rest_events full h page) (full_of h.memory.slots busy) in

@@ -22,6 +22,7 @@ use Rattle.ff_core.specs.declared.action.Action.{Action}
 use Rattle.ff_core.specs.declared.action.Action.TheVariants.{Advance, TurnBack, Work as WorkFor, Promote, Retreat, Evict, Collect, Drain}
 use Rattle.ff_core.specs.declared.action.Progress.{Progress}
 use Rattle.ff_core.specs.declared.action.Progress.TheVariants.{Did, Failed, Off}
+use Rattle.ff_core.proofs.Owning.{own_store}
 
 -- how the operation of an action stopped, if it did
 abbrev pub stop_of_progress : Progress → Option FlashStop
@@ -156,7 +157,7 @@ Runs progress h h' = RunsOnce h.device.store (stop_of_progress progress) h'.devi
 
 moved-runs : {T E : Type 0} (h : HierarchyView T E) (progress : Progress) (h' : HierarchyView T E)
     → stop_of_progress progress ≡ None → IsMoved h h' → Runs progress h h'
-moved-runs h progress h' none moved = rw none (runs-same h.device.store h'.device.store moved.store)
+moved-runs h progress h' none moved = rw none (runs-same h.device.store h'.device.store (own_store h.device h'.device moved.own))
 
 advanced-runs : {T E : Type 0} (slot : ℕ) (h : HierarchyView T E) (progress : Progress) (h' : HierarchyView T E)
     → IsAdvanced slot h progress h' → Runs progress h h'
@@ -185,4 +186,4 @@ performs-runs (Retreat page) h progress h' on is = moved-runs h progress h' (ap 
 performs-runs (Evict frame) h progress h' on is = moved-runs h progress h' (ap stop_of_progress is.did) is.moved
 performs-runs Collect h progress h' on is = collected-runs h progress h' on is
 performs-runs Drain h progress h' on is =
-    rw (ap stop_of_progress is.did) (runs-same h.device.store h'.device.store is.store)
+    rw (ap stop_of_progress is.did) (runs-same h.device.store h'.device.store (own_store h.device h'.device is.own))

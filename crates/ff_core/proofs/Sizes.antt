@@ -13,7 +13,8 @@ use Rattle.ff_plb.specs.Plb.{slot_at}
 use Rattle.ff_policy.specs.Counters.{raised_count}
 use Rattle.ff_policy.specs.Policy.{PolicyView, StepsWhere, counted, counter_of}
 use Rattle.ff_policy.specs.declared.policy.TheConstants.{STEP_ACCESSES}
-use Rattle.ff_device.specs.Device.{lines_in}
+use Rattle.ff_device.specs.Device.{lines_in, own_of, parts_of}
+use Rattle.ff_device.specs.Parts.{SameShape}
 use Rattle.ff_core.specs.Hierarchy.{HierarchyView, lines_under}
 use Rattle.ff_core.specs.Performs.{HasEvicted, HasPromoted, IsAdvanced, IsTurnedBack, IsWorkedFor, Performs, steps, yields}
 use Rattle.ff_core.specs.Serving.{IsAccess, PolicyAfter}
@@ -21,10 +22,12 @@ use Rattle.ff_core.specs.declared.action.Action.{Action}
 use Rattle.ff_core.specs.declared.action.Action.TheVariants.{Advance, TurnBack, Work, Promote, Retreat, Evict, Collect, Drain}
 use Rattle.ff_core.specs.declared.action.Progress.{Progress}
 use Rattle.ff_core.proofs.MemorySizes.{KeepsSizes, accesses-sizes, advances-sizes, promoted-sizes, retreated-sizes, sizes-same, turned-frames, turned-slots}
+use Rattle.ff_core.proofs.Owning.{own_shape}
 
 -- the parts of a hierarchy have the sizes that they had, and the hand is at a frame
 pub record KeepsParts {T E : Type 0} (h h' : HierarchyView T E) : Type 0 where
   pub sizes : KeepsSizes h.memory (lines_under h) h'.memory (lines_under h')
+  pub shape : SameShape (parts_of h.device) (parts_of h'.device)
   pub counters : length h'.policy.counters ≡ length h.policy.counters
   pub hand : IsHandInside h.evictor.hand h.memory.frames → IsHandInside h'.evictor.hand h'.memory.frames
 
@@ -41,19 +44,20 @@ next-hand frame old new same some =
 
 -- the policy and the hand are as before
 moved-parts : {T E : Type 0} (h h' : HierarchyView T E) → h' ≡ record h { memory = h'.memory; device = h'.device }
-    → KeepsSizes h.memory (lines_under h) h'.memory (lines_under h') → KeepsParts h h'
-moved-parts {T} {E} h h' rest sizes =
+    → own_of h'.device ≡ own_of h.device → KeepsSizes h.memory (lines_under h) h'.memory (lines_under h') → KeepsParts h h'
+moved-parts {T} {E} h h' rest own sizes =
     let same = ap (λ (x : HierarchyView T E). x.evictor.hand) rest in
     record {
       sizes = sizes;
+      shape = own_shape h.device h'.device own;
       counters = ap (λ (x : HierarchyView T E). length x.policy.counters) rest;
       hand = λ inside. rw same (same-hand h.evictor.hand h.memory.frames h'.memory.frames sizes.frames inside);
     }
 
 -- the device alone changed
 device-parts : {T E : Type 0} (h h' : HierarchyView T E) → h' ≡ record h { device = h'.device }
-    → SameSizes (lines_under h) (lines_under h') → KeepsParts h h'
-device-parts {T} {E} h h' rest lines =
+    → SameSizes (lines_under h) (lines_under h') → SameShape (parts_of h.device) (parts_of h'.device) → KeepsParts h h'
+device-parts {T} {E} h h' rest lines shape =
     let same = ap (λ (x : HierarchyView T E). x.evictor.hand) rest in
     let frames = ap (λ (x : HierarchyView T E). length x.memory.frames) rest in
     record {
@@ -62,6 +66,7 @@ device-parts {T} {E} h h' rest lines =
         slots = ap (λ (x : HierarchyView T E). length x.memory.slots) rest;
         lines = lines;
       };
+      shape = shape;
       counters = ap (λ (x : HierarchyView T E). length x.policy.counters) rest;
       hand = λ inside. rw same (same-hand h.evictor.hand h.memory.frames h'.memory.frames frames inside);
     }
@@ -69,7 +74,7 @@ device-parts {T} {E} h h' rest lines =
 advanced-parts : {T E : Type 0} (slot : ℕ) (h : HierarchyView T E) (progress : Progress) (h' : HierarchyView T E)
     → IsAdvanced slot h progress h' → KeepsParts h h'
 advanced-parts slot h progress h' is =
-    moved-parts h h' is.rest
+    moved-parts h h' is.rest is.moved.own
     (advances-sizes slot (slot_at h.memory.slots slot) h.memory (lines_under h) is.what h'.memory (lines_under h') is.step)
 
 turned-parts : {T E : Type 0} (slot : ℕ) (h : HierarchyView T E) (progress : Progress) (h' : HierarchyView T E)
@@ -86,13 +91,14 @@ turned-parts {T} {E} slot h progress h' is =
         lines = sizes-same (lines_under h) (lines_under h')
             (ap (λ (x : HierarchyView T E). lines_in x.device) is.rest);
       };
+      shape = own_shape h.device h'.device is.moved.own;
       counters = ap (λ (x : HierarchyView T E). length x.policy.counters) is.rest;
       hand = λ inside. rw hand (same-hand h.evictor.hand h.memory.frames h'.memory.frames frames inside);
     }
 
 worked-parts : {T E : Type 0} (page : ℕ) (h : HierarchyView T E) (progress : Progress) (h' : HierarchyView T E)
     → IsWorkedFor page h progress h' → KeepsParts h h'
-worked-parts page h progress h' (steps work came step unpinned) = device-parts h h' step.rest step.kept.sizes
+worked-parts page h progress h' (steps work came step unpinned) = device-parts h h' step.rest step.kept.sizes step.shape
 worked-parts page h progress h' (yields other slot pinned found is) = advanced-parts slot h progress h' is
 
 begun-parts : {T E : Type 0} (page : ℕ) (h : HierarchyView T E) (progress : Progress) (h' : HierarchyView T E)
@@ -102,6 +108,7 @@ begun-parts {T} {E} page h progress h' is =
     let sizes = promoted-sizes page h.memory (lines_under h) h'.memory (lines_under h') is.step in
     record {
       sizes = sizes;
+      shape = own_shape h.device h'.device is.moved.own;
       counters = ap (λ (x : HierarchyView T E). length x.policy.counters) is.rest ∙ length-set h.policy.counters page 0;
       hand = λ inside. rw hand (same-hand h.evictor.hand h.memory.frames h'.memory.frames sizes.frames inside);
     }
@@ -118,6 +125,7 @@ evicted-parts {T} {E} frame h progress h' is =
         slots = ap (λ (slots : List _). length slots) is.passed.slots ∙ begun.slots;
         lines = begun.lines;
       };
+      shape = own_shape h.device h'.device is.moved.own;
       counters = ap (λ (x : HierarchyView T E). length x.policy.counters) is.rest;
       hand = λ inside. rw hand (next-hand frame h.memory.frames h'.memory.frames frames);
     }
@@ -129,16 +137,16 @@ performs-parts (TurnBack slot) h progress h' is = turned-parts slot h progress h
 performs-parts (Work page) h progress h' is = worked-parts page.0 h progress h' is
 performs-parts (Promote page) h progress h' is = begun-parts page.0 h progress h' is
 performs-parts (Retreat page) h progress h' is =
-    moved-parts h h' is.rest (retreated-sizes page.0 h.memory (lines_under h) h'.memory (lines_under h') is.step)
+    moved-parts h h' is.rest is.moved.own (retreated-sizes page.0 h.memory (lines_under h) h'.memory (lines_under h') is.step)
 performs-parts (Evict frame) h progress h' is = evicted-parts frame h progress h' is
-performs-parts Collect h progress h' is = device-parts h h' is.rest is.kept.sizes
-performs-parts Drain h progress h' is = device-parts h h' is.rest is.drained.residence.sizes
+performs-parts Collect h progress h' is = device-parts h h' is.rest is.kept.sizes is.shape
+performs-parts Drain h progress h' is = device-parts h h' is.rest is.drained.residence.sizes (own_shape h.device h'.device is.own)
 
 -- a call was asked of the memory
 pub access-parts : {T E : Type 0} (op : Op) (position : ℕ) (h : HierarchyView T E) (access : Access) (h' : HierarchyView T E)
     → IsAccess op position h access h' → KeepsParts h h'
 access-parts op position h access h' is =
-    moved-parts h h' is.rest
+    moved-parts h h' is.rest is.own
     (accesses-sizes op position h.memory (lines_under h) access h'.memory (lines_under h') is.accesses)
 
 stepped-counters : {T : Type 0} (due : Bool) (answers : T → ℕ → ℕ → ℕ → ℕ → Type 0) (old new : PolicyView T)

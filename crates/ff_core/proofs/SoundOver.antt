@@ -26,6 +26,8 @@ sized-over core history events log tally h sized kept calls turns =
       capacity = sized.capacity;
       window = kept.sizes.lines.most_posts ∙ sized.window;
       steps = kept.sizes.lines.most_steps ∙ sized.steps;
+      sets = kept.shape.sets ∙ sized.sets;
+      ways = kept.shape.ways ∙ sized.ways;
       counters = kept.counters ∙ sized.counters;
       frames = kept.sizes.frames ∙ sized.frames;
       slots = kept.sizes.slots ∙ sized.slots;
@@ -66,6 +68,7 @@ counted-alike core sound = record {
 pub still-parts : {T E : Type 0} (h : HierarchyView T E) → KeepsParts h h
 still-parts h = record {
   sizes = record { frames = refl; slots = refl; lines = sizes-same (lines_under h) (lines_under h) refl };
+  shape = record { sets = refl; ways = refl; room = refl };
   counters = refl;
   hand = λ inside. inside;
 }

@@ -90,6 +90,7 @@ served-sound {T} {E} answers old caller number op reply new sound memory device 
     let counts = served-side is.side old.tally in
     let parts : KeepsParts old.hierarchy after = record {
       sizes = asked.sizes;
+      shape = asked.shape;
       counters = counted-counters is.side (page_asked op) answers old.hierarchy.policy policy is.policy;
       hand = asked.hand;
     } in

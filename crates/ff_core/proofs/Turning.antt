@@ -20,7 +20,7 @@ turned_back slot h m device located is keeps same = record {
   moved = record {
     located = keeps (lines_under h) device located;
     places = same (lines_under h) device located;
-    store = refl;
+    own = refl;
   };
   rest = ap (λ (n : MemoryView). record h { memory = n }) is;
 }

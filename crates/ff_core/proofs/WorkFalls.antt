@@ -29,6 +29,7 @@ use Rattle.ff_core.proofs.EntrySteps.{IsStepped, entry_step, stepped_full, stepp
 use Rattle.ff_core.proofs.KeptSets.{pinned_kept}
 use Rattle.ff_core.proofs.KeptSteps.{kept_sealed, step_free}
 use Rattle.ff_core.proofs.LinesLeft.{entry_most}
+use Rattle.ff_core.proofs.Owning.{own_store}
 
 -- what is known of a hierarchy before a step, and of the one after it
 pub record IsStepGiven {T E : Type 0} (h h' : HierarchyView T E) : Type 0 where
@@ -132,12 +133,13 @@ yield_falls page other slot h progress h' given pinned found is =
     ∙ ap slot_steps found.of_page in
     let new_keeper : keeper_steps h' page ≡ slot_steps s.step.after =
     ap (λ (way : Option PageNo). slot_steps (entry_of_some h'.memory.slots way))
-    (own_way h.device h'.device page 0 is.own ∙ pinned.least)
+    (own_way h.device h'.device page 0 is.moved.own ∙ pinned.least)
     ∙ ap (λ (q : ℕ). slot_steps (entry_of h'.memory.slots q)) (sym found.page_is)
     ∙ ap slot_steps (stepped_here slot found.entry h.memory h'.memory s) in
     let fewer = s.step.fewer in
-    let seals : seals_left h' ≡ seals_left h = rw is.moved.store refl in
-    let most : (lines_under h').most_steps ≡ (lines_under h).most_steps = rw is.moved.store refl in
+    let store = own_store h.device h'.device is.moved.own in
+    let seals : seals_left h' ≡ seals_left h = rw store refl in
+    let most : (lines_under h').most_steps ≡ (lines_under h).most_steps = rw store refl in
     let after = events_at_most (is_kept_set h'.device.cache (lines_under h') page) h' page (given.after.few_steps page) in
     let before : events_to h page ≡ keeper_steps h page + (seals_left h + (lines_under h).most_steps) = rw kept refl in
     omega (arith, after, before, old_keeper, new_keeper, fewer, seals, most)

@@ -28,6 +28,8 @@ pub record IsSized {T E : Type 0} (core : CoreView T E) : Type 0 where
   pub capacity : core.opening.capacity ≡ capacity_of core.geometry
   pub window : (lines_under core.hierarchy).most_posts ≡ core.geometry.window
   pub steps : (lines_under core.hierarchy).most_steps ≡ 6 * core.geometry.per_block + 10
+  pub sets : core.hierarchy.device.cache.sets ≡ core.geometry.sets
+  pub ways : core.hierarchy.device.cache.ways ≡ core.geometry.ways
   pub counters : length core.hierarchy.policy.counters ≡ core.geometry.pages
   pub frames : length core.hierarchy.memory.frames ≡ core.geometry.frames
   pub slots : length core.hierarchy.memory.slots ≡ core.geometry.plb

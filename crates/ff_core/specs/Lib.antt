@@ -10,6 +10,7 @@ pub mod EventsLeft
 pub mod Fresh
 pub mod Hierarchy
 pub mod Log
+pub mod Losing
 pub mod Misses
 pub mod Performs
 pub mod Record
@@ -18,3 +19,4 @@ pub mod Serving
 pub mod Tally
 pub mod Turns
 pub mod Uncut
+pub mod Until

@@ -20,6 +20,7 @@ use Rattle.ff_policy.specs.Policy.{promoted}
 use Rattle.ff_device.specs.Draining.{DrainsFirst}
 use Rattle.ff_device.specs.CollectTurn.{IsCollectTurn}
 use Rattle.ff_device.specs.Device.{own_of, parts_of}
+use Rattle.ff_device.specs.Parts.{SameShape}
 use Rattle.ff_device.specs.StoreSteps.{CallsOnce}
 use Rattle.ff_device.specs.WorkRows.{IsPinnedSet, IsWorkStep, stop_of_work}
 use Rattle.ff_core.specs.Hierarchy.{HierarchyView, lines_under}
@@ -28,13 +29,14 @@ use Rattle.ff_core.specs.declared.action.Action.TheVariants.{Advance, TurnBack, 
 use Rattle.ff_core.specs.declared.action.Progress.{Progress}
 use Rattle.ff_core.specs.declared.action.Progress.TheVariants.{Did, Failed, Off}
 
--- memory and device were changed: the facts that tie them hold, no line has other bytes, and no flash operation was made
+-- memory and device were changed: the facts that tie them hold, no line has other bytes, no flash operation was made, and
+-- each slot of the cache holds the page that it held
 pub record IsMoved {T E : Type 0} (h h' : HierarchyView T E) : Type 0 where
   pub located : IsLocated h'.memory (lines_under h')
   pub places : SamePlaces h.memory (lines_under h) h'.memory (lines_under h')
-  pub store : h'.device.store ≡ h.device.store
+  pub own : own_of h'.device ≡ own_of h.device
 
--- the page in flight in a slot made its step: each slot of the cache holds the page that it held
+-- the page in flight in a slot made its step
 pub record IsAdvanced {T E : Type 0} (slot : ℕ) (h : HierarchyView T E) (progress : Progress)
     (h' : HierarchyView T E) : Type 0 where
   pub what : What
@@ -42,7 +44,6 @@ pub record IsAdvanced {T E : Type 0} (slot : ℕ) (h : HierarchyView T E) (progr
   pub step : Advances slot (slot_at h.memory.slots slot) h.memory (lines_under h) what
       h'.memory (lines_under h')
   pub moved : IsMoved h h'
-  pub own : own_of h'.device ≡ own_of h.device
   pub rest : h' ≡ record h { memory = h'.memory; device = h'.device }
 
 -- the page that comes in by a slot turned back
@@ -65,6 +66,7 @@ pub record IsDeviceStep {T E : Type 0} (page : ℕ) (work : Work) (h : Hierarchy
   pub kept : KeepsLines (lines_under h) (lines_under h')
   pub row : IsWorkStep page (parts_of h.device) work (parts_of h'.device)
   pub calls : CallsOnce h.device.store (stop_of_work work) h'.device.store
+  pub shape : SameShape (parts_of h.device) (parts_of h'.device)
   pub rest : h' ≡ record h { device = h'.device }
 
 -- a step of work for a page: the device's, or that of the page in the set's least way, where each way is pinned
@@ -131,6 +133,7 @@ pub record MakesCollectTurn {T E : Type 0} (h : HierarchyView T E) (progress : P
   pub came_to : progress ≡ collect_progress (is_some h.device.store.waits) work
   pub kept : KeepsLines (lines_under h) (lines_under h')
   pub calls : CallsOnce h.device.store (stop_of_work work) h'.device.store
+  pub shape : SameShape (parts_of h.device) (parts_of h'.device)
   pub rest : h' ≡ record h { device = h'.device }
 
 -- the oldest post was drained
@@ -138,7 +141,7 @@ pub record DrainsOldest {T E : Type 0} (h : HierarchyView T E) (progress : Progr
     (h' : HierarchyView T E) : Type 0 where
   pub did : progress ≡ Did Drained
   pub drained : DrainsFirst 1 (lines_under h) (lines_under h')
-  pub store : h'.device.store ≡ h.device.store
+  pub own : own_of h'.device ≡ own_of h.device
   pub rest : h' ≡ record h { device = h'.device }
 
 abbrev pub Performs : {T E : Type 0} → Action → HierarchyView T E → Progress → HierarchyView T E

@@ -1,5 +1,5 @@
 -- What a contract sees of the record of a session.
-use Rattle.std.specs.Prelude.{ℕ, ◌+◌, ◌≤◌, ◌≡◌, List, count_by}
+use Rattle.std.specs.Prelude.{ℕ, ◌+◌, ◌≤◌, ◌≡◌, List, length, count_by}
 use Rattle.ff_base.specs.Count.{last_event}
 use Rattle.ff_base.specs.declared.geometry.Geometry.{Geometry}
 use Rattle.ff_model.specs.Image.{Content}
@@ -11,7 +11,7 @@ use Rattle.ff_core.specs.CoreSound.{has_failed, has_fault, is_promotion, is_serv
 use Rattle.ff_core.specs.declared.log.Turned.{Turned}
 
 -- the answered calls, the background turns, the counts, the geometry, the event number and the count of faults at the
--- opening, and the event number at the end
+-- opening, the event number at the end, and how many entries are kept
 pub record RecordView : Type 0 where
   pub entries : List Entry
   pub turns : List Turned
@@ -20,6 +20,7 @@ pub record RecordView : Type 0 where
   pub from_event : ℕ
   pub from_faults : ℕ
   pub events : ℕ
+  pub kept : ℕ
 
 -- how the session of a record was opened, where it began from an image
 abbrev pub opening_from : Content → RecordView → Opening
@@ -38,10 +39,11 @@ pub record IsRecordSound (account : RecordView) : Type 0 where
   pub promotions : account.counts.promoted ≡ count_by is_promotion account.turns
   pub faults : count_by has_fault account.entries + count_by has_failed account.turns
       ≤ account.counts.faults
+  pub kept : account.kept ≤ length account.entries
 
--- the record that a core ends in
-abbrev pub record_of : {T E : Type 0} → CoreView T E → RecordView
-record_of core = record {
+-- the record that a core ends in, where so many entries are kept
+abbrev pub record_of : {T E : Type 0} → CoreView T E → ℕ → RecordView
+record_of core kept = record {
   entries = core.history.entries;
   turns = core.log.turns;
   counts = counts_of core;
@@ -49,4 +51,5 @@ record_of core = record {
   from_event = core.opening.event;
   from_faults = core.opening.faults;
   events = core.events;
+  kept = kept;
 }

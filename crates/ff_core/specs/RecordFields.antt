@@ -12,6 +12,7 @@ view_of r = record {
   from_event = r.from_event;
   from_faults = r.from_faults;
   events = r.events;
+  kept = r.kept;
 }
 
 -- the record is sound

@@ -17,6 +17,7 @@ pub struct Record {
     pub(crate) from_event: u64,
     pub(crate) from_faults: u64,
     pub(crate) events: u64,
+    pub(crate) kept: u32,
 }
 
 impl Model for Record {
@@ -73,6 +74,13 @@ impl Record {
         ensures { result ≡ self.now.events }
     {
         self.events
+    }
+
+    /// How many entries of the history a loss of power kept: those before the first store that was lost, else all.
+    pub fn kept(&self) -> u32
+        ensures { result ≡ self.now.kept }
+    {
+        self.kept
     }
 
     /// What every record keeps. For the prover alone.

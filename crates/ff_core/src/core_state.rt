@@ -17,6 +17,8 @@ ghost use Rattle.ff_core.specs.Uncut.{StaysOn};
 
 mod driving;
 mod ending;
+mod losing;
+mod until;
 
 use crate::fresh::{FreshBack, fresh_state};
 use crate::log::{Back, Log};
@@ -29,6 +31,7 @@ use ff_flash::Flash;
 use ff_lines::LineDevice;
 use ff_model::{Counts, History, Kind, Op};
 use ff_policy::{Tune, Tuner};
+pub use losing::Lost;
 use std::alloc::Global;
 use std::marker::Model;
 

@@ -2,6 +2,7 @@
 ghost use Rattle.std.specs.Prelude.{◌≡◌, ◌<◌};
 
 mod choosing;
+mod losing;
 mod performing;
 mod serving;
 

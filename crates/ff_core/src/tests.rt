@@ -8,11 +8,12 @@ mod rules;
 
 use super::*;
 use ff_base::{Caller, Geometry, NoMemory, PageNo};
+use ff_cache::Cache;
 use ff_evict::Picker;
-use ff_flash::{Plan, SimFlash};
+use ff_flash::{Flash, Plan, SimFlash};
 use ff_model::{Counts, Kind, Op, Piece, Reply};
 use ff_policy::Tuner;
-use rows::{ROWS, Row, Step};
+use rows::{LOSSES, ROWS, Row, Step};
 use rules::{ByDirty, ByHits};
 use std::alloc::Global;
 use std::test::Fail;
@@ -171,5 +172,52 @@ fn a_session_ends_in_its_record(rt: HostRuntime) -> Result<(), Fail> {
             .get(0)
             .is_some_and(|turn| turn.answer == Back::Idle)
     );
+    Ok(())
+}
+
+// The first two bytes of page 0 in what the battery kept, and how many entries are kept.
+fn left_by(alloc: Global, core: TestCore, arrive: u32) -> Result<(u32, u8, u8), Fail> {
+    core.known();
+    let geometry = *core.geometry();
+    let lost = core.power(arrive);
+    let kept = lost.account.kept();
+    match Cache::from_nv(alloc, lost.nv, &geometry) {
+        Ok(parts) => match parts.cache.find(PageNo(0)) {
+            Some(slot) => {
+                let line = parts.cache.line(slot, 0);
+                Ok((kept, line[0], line[1]))
+            }
+            None => Ok((kept, 0, 0)),
+        },
+        Err(_) => Err("no memory")?,
+    }
+}
+
+#[test]
+fn a_loss_of_power_keeps_what_arrived_and_was_acknowledged(rt: HostRuntime) -> Result<(), Fail> {
+    for row in &LOSSES {
+        let mut core = core_of(rt.alloc(), &ROWS[0])?;
+        assert!(rt; is_answered(&mut core, &Step::Mark(0)));
+        assert!(rt; is_answered(&mut core, &Step::Store(0, &[0xaa])));
+        if row.verified {
+            assert_eq!(rt; call(&mut core, &Op::Verify), Some(Reply::Done));
+        }
+        assert!(rt; is_answered(&mut core, &Step::Store(1, &[0xbb])));
+        assert_eq!(rt; core.counts().device, 2);
+        assert_eq!(rt; left_by(rt.alloc(), core, row.arrive)?, row.left);
+    }
+    Ok(())
+}
+
+#[test]
+fn the_power_is_cut_before_an_event(rt: HostRuntime) -> Result<(), Fail> {
+    let mut core = core_of(rt.alloc(), &ROWS[0])?;
+    assert_eq!(rt; core.spare_calls(), 32);
+    let stopped = core.drive_until(Caller(0), 0, &Op::Load { at: 0, len: 1 }, Some(1));
+    assert_eq!(rt; stopped, Driven::Off);
+    assert_eq!(rt; (core.events(), core.history().len()), (1, 0));
+    assert!(rt; !core.flash().is_on());
+    core.cut_power();
+    assert!(rt; !core.flash().is_on());
     Ok(())
 }

@@ -13,7 +13,7 @@ use ff_flash::Flash;
 use ff_model::Op;
 use ff_policy::Tune;
 
-fn most_events(geometry: &Geometry, op: &Op) -> u32
+pub(super) fn most_events(geometry: &Geometry, op: &Op) -> u32
     requires { geometry.now.per_block < 2 ^ 20 }
     ensures { result ≡ most_events geometry.now op.now }
 {
@@ -37,7 +37,7 @@ fn most_events(geometry: &Geometry, op: &Op) -> u32
 impl<F: Flash, T: Tune, E: Pick> Core<F, T, E> {
     // One event of a call.
     #[tactic(auto, using(crate::proofs::DriveEvents::turn_event, crate::proofs::Powered::turn_on))]
-    fn event(&mut self, caller: Caller, number: u32, op: &Op) -> Turn
+    pub(super) fn event(&mut self, caller: Caller, number: u32, op: &Op) -> Turn
         requires spare { 0 < spare_calls self.old }
         ensures event { IsEvent self.old caller number op.now result self.new }
         ensures on { StaysOn (flash_under self.old.hierarchy) (flash_under self.new.hierarchy) }

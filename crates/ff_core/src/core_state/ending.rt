@@ -1,5 +1,5 @@
 // How a session ends.
-ghost use Rattle.std.specs.Prelude.{◌≡◌};
+ghost use Rattle.std.specs.Prelude.{◌≡◌, length};
 ghost use Rattle.ff_policy.specs.Policy.{IsPolicySound};
 ghost use Rattle.ff_store.specs.PageStore.{IsStoreSound};
 ghost use Rattle.ff_core.specs.Account.{IsAccountOf, start_of};
@@ -30,7 +30,7 @@ impl<F: Flash, T: Tune, E: Pick> Core<F, T, E> {
     #[tactic(auto, using(crate::proofs::Ending::record_sound, crate::proofs::Ending::account_of))]
     pub fn finish(self) -> Ended<F, T, E>
         ensures base { result.base ≡ self.opening.base }
-        ensures account { result.account ≡ record_of self }
+        ensures account { result.account ≡ record_of self (length self.history.entries) }
         ensures flash { F.state result.flash ≡ flash_under self.hierarchy }
         ensures tuner { result.tuner ≡ self.hierarchy.policy.tuner }
         ensures picker { result.picker ≡ self.hierarchy.evictor.picker }
@@ -42,7 +42,7 @@ impl<F: Flash, T: Tune, E: Pick> Core<F, T, E> {
     }
 
     // What the store and the policy of every core keep. For the prover alone.
-    fn ledgers_known(&self)
+    pub(super) fn ledgers_known(&self)
         ensures store { IsStoreSound self.now.hierarchy.device.store }
         ensures policy { IsPolicySound self.now.hierarchy.policy }
     {
@@ -54,12 +54,13 @@ impl<F: Flash, T: Tune, E: Pick> Core<F, T, E> {
 fn end<F: Flash, T: Tune, E: Pick>(state: State<F, T, E>) -> Ended<F, T, E>
     requires { IsCoreSound state }
     ensures base { result.base ≡ state.opening.base }
-    ensures account { result.account ≡ record_of state }
+    ensures account { result.account ≡ record_of state (length state.history.entries) }
     ensures flash { F.state result.flash ≡ flash_under state.hierarchy }
     ensures tuner { result.tuner ≡ state.hierarchy.policy.tuner }
     ensures picker { result.picker ≡ state.hierarchy.evictor.picker }
 {
     let counts = state.counts();
+    let entries = state.history.len();
     let hierarchy = state.hierarchy;
     Ended {
         base: state.base,
@@ -71,6 +72,7 @@ fn end<F: Flash, T: Tune, E: Pick>(state: State<F, T, E>) -> Ended<F, T, E>
             from_event: state.from_event,
             from_faults: state.from_faults,
             events: state.events,
+            kept: entries,
         },
         flash: hierarchy.device.into_parts().store.into_flash(),
         tuner: hierarchy.policy.into_tuner(),

@@ -266,3 +266,34 @@ pub const ROWS: [Row; 10] = [
         },
     },
 ];
+
+/// A mark and two stores to one line, with a verify between them or not; how many of the waiting posts arrive; and how many
+/// entries are kept, with the first two bytes that are left.
+pub struct Loss {
+    pub verified: bool,
+    pub arrive: u32,
+    pub left: (u32, u8, u8),
+}
+
+pub const LOSSES: [Loss; 4] = [
+    Loss {
+        verified: false,
+        arrive: 1,
+        left: (2, 0xaa, 0),
+    },
+    Loss {
+        verified: false,
+        arrive: 0,
+        left: (1, 0, 0),
+    },
+    Loss {
+        verified: false,
+        arrive: 5,
+        left: (3, 0xaa, 0xbb),
+    },
+    Loss {
+        verified: true,
+        arrive: 0,
+        left: (3, 0xaa, 0),
+    },
+];

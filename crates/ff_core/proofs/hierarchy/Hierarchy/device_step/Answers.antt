@@ -20,6 +20,7 @@ returns-clause-step g c =
       kept = c.work.ensures.kept;
       row = c.work.ensures.row given.on absent.absent;
       calls = c.work.ensures.calls;
+      shape = c.work.ensures.shape;
       rest = refl;
     } in
     subst
