@@ -1,4 +1,5 @@
 pub mod Contents
+pub mod Empty
 pub mod Filling
 pub mod MountedParts
 pub mod Pages

@@ -75,7 +75,7 @@ kept_slot slots k =
     get_or-map_all slot_of (ways_of slots) k (way_of empty_slot)
     ∙ ap slot_of (get_or-map_all way_of slots k empty_slot)
 
-kept_placed : (sets ways : ℕ) (slots : List Slot) → ArePlaced sets ways slots → ArePlaced sets ways (slots_of (ways_of slots))
+pub kept_placed : (sets ways : ℕ) (slots : List Slot) → ArePlaced sets ways slots → ArePlaced sets ways (slots_of (ways_of slots))
 kept_placed sets ways slots placed =
     let size : length (slots_of (ways_of slots)) ≡ length slots = length-map (ways_of slots) slot_of ∙ length-map slots way_of in
     record {

@@ -1,10 +1,13 @@
 // Images of a store and a cache, with pages in each, in both and in neither.
+mod lost;
 mod rig;
 
 use super::*;
 use ff_base::{Geometry, NoMemory, PageBuf, PageNo};
 use ff_cache::Cache;
+use ff_flash::Flash;
 use ff_model::Image;
+use lost::Lost;
 use rig::{Fault, Parts, Stored, cache_page};
 use std::alloc::Global;
 use std::process::Abort;
@@ -155,6 +158,29 @@ fn a_read_that_fails_or_is_cut_stops_an_image(rt: HostRuntime) -> Result<(), Fai
             "at {number}"
         );
         assert_eq!(rt; cut.made(), (u64::from(number), false));
+    }
+    Ok(())
+}
+
+// Ten places are probed. A probe that fails or is cut hands back what can be mounted again.
+#[test]
+fn a_mount_that_is_refused_can_be_made_again(rt: HostRuntime) -> Result<(), Fail> {
+    let table = [
+        (Fault::Nothing, (10, true, None), 10),
+        (Fault::Fail(4), (4, true, Some(MountStop::Fault)), 14),
+        (Fault::Cut(7), (7, false, Some(MountStop::Off)), 17),
+    ];
+    for (fault, wanted, last) in table {
+        let lost = Lost::new(rt.alloc(), &small(), 3, fault).ok_or("want of memory")?;
+        let (came, mounted, back) = lost.mount(rt.alloc()).ok_or("a mount")?;
+        assert_eq!(rt; came, wanted);
+        let mounted = match back {
+            Some(lost) => lost.mount(rt.alloc()).ok_or("a second mount")?.1,
+            None => mounted,
+        };
+        let mounted = mounted.ok_or("mounted parts")?;
+        assert_eq!(rt; mounted.store.flash().operation_count(), last);
+        assert_eq!(rt; mounted.store.is_mapped(PageNo(3)), false);
     }
     Ok(())
 }

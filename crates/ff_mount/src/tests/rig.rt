@@ -23,7 +23,7 @@ pub enum Fault {
     Cut(u32),
 }
 
-fn plan_of(alloc: Global, fault: Fault) -> Result<Plan, NoMemory>
+pub fn plan_of(alloc: Global, fault: Fault) -> Result<Plan, NoMemory>
     ensures { IfOk result (λ plan. IsPlan (planned_of plan)) }
 {
     match fault {
@@ -176,7 +176,7 @@ fn may_read(store: &PageStore<SimFlash>) -> bool
     flash.is_on() && flash.operation_count() <= 1 << 62 && store.pending().is_none()
 }
 
-fn blank_marks(alloc: Global, pages: u32) -> Result<Marks, NoMemory>
+pub fn blank_marks(alloc: Global, pages: u32) -> Result<Marks, NoMemory>
     ensures { IfOk result (λ marks. length marks ≡ pages) }
 {
     Marks::new(alloc, pages)
