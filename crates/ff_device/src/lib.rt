@@ -5,6 +5,3 @@ mod device;
 mod store_steps;
 
 pub use device::{Device, DeviceOwn, DeviceParts, SlotPages};
-
-#[cfg(test)]
-mod tests;

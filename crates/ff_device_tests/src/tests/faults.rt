@@ -6,7 +6,6 @@ use super::{load, store};
 use ff_base::PageBuf;
 use ff_lines::Work;
 use std::alloc::Global;
-use std::process::Abort;
 use std::test::Fail;
 
 // The pages, and the bytes that are stored at their start.
@@ -23,6 +22,9 @@ const STORES: [(u32, u8); 8] = [
 
 // The operations of the stores, the last of which is the fetch of page 2.
 const OPERATIONS: u32 = 21;
+
+// How an operation goes: it fails, or is cut by a mask.
+const MASKS: [Option<u32>; 4] = [None, Some(0), Some(1), Some(3)];
 
 fn has_bytes(rig: &mut Rig, wanted: &[u8; 5]) -> bool {
     for (page, byte) in wanted.iter().enumerate() {
@@ -52,9 +54,9 @@ fn set(bytes: &mut [u8], page: u32, byte: u8) {
 // Makes the stores until the power is off. The answer is the bytes that are stored then.
 fn store_all(rig: &mut Rig) -> Option<[u8; 5]> {
     let mut wanted = [0; 5];
-    for (page, byte) in STORES {
-        match store_again(rig, page, byte, &wanted)? {
-            Work::Ready => set(&mut wanted, page, byte),
+    for (page, byte) in &STORES {
+        match store_again(rig, *page, *byte, &wanted)? {
+            Work::Ready => set(&mut wanted, *page, *byte),
             Work::Off => return Some(wanted),
             _ => return None,
         }
@@ -87,19 +89,28 @@ fn is_left(mut rig: Rig, buffer: &mut PageBuf, fault: Fault) -> bool {
     has_come && is_same(stored, left)
 }
 
-fn rig_of(rt: &impl Abort, alloc: Global, fault: Fault) -> Rig {
-    Rig::new(alloc, &ONE_WAY, fault).expect(rt, "want of memory")
+// Whether that holds of an operation that fails, and of one that is cut by each of three masks.
+fn is_left_by_each(alloc: Global, buffer: &mut PageBuf, after: u32) -> bool {
+    for mask in &MASKS {
+        let fault = Fault { after, mask: *mask };
+        match Rig::new(alloc, &ONE_WAY, fault) {
+            Some(rig) => {
+                if !is_left(rig, buffer, fault) {
+                    return false;
+                }
+            }
+            None => return false,
+        }
+    }
+    true
 }
 
 #[test]
 fn each_fault_leaves_what_is_stored(rt: HostRuntime) -> Result<(), Fail> {
     let mut buffer = PageBuf::new(rt.alloc())?;
     for after in 0..OPERATIONS {
-        for mask in [None, Some(0), Some(1), Some(3)] {
-            let fault = Fault { after, mask };
-            let rig = rig_of(&rt, rt.alloc(), fault);
-            assert!(rt; is_left(rig, &mut buffer, fault), "{mask:?} after {after}");
-        }
+        let left = is_left_by_each(rt.alloc(), &mut buffer, after);
+        assert!(rt; left, "after {after}");
     }
     Ok(())
 }

@@ -1,7 +1,7 @@
 // What the cells and the cache of a device hold, with the power gone.
-use crate::Device;
 use ff_base::{PageBuf, PageNo, Ppn};
 use ff_cache::Cache;
+use ff_device::Device;
 use ff_flash::{Flash, Probe, SimFlash, Spare};
 
 // The spare of a sealed page, and its first byte.

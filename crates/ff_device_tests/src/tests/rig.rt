@@ -8,9 +8,9 @@ ghost use Rattle.ff_store.specs.PageStore.{new_store};
 ghost use Rattle.ff_device.specs.Device.{lines_in};
 ghost use Rattle.ff_lines.specs.DeviceState.{HasRoom};
 
-use crate::Device;
 use ff_base::{Geometry, NoMemory, PageNo};
 use ff_cache::Cache;
+use ff_device::Device;
 use ff_flash::{CutAt, Flash, Plan, SimFlash};
 use ff_lines::{LineDevice, Work};
 use ff_model::Piece;
@@ -108,7 +108,7 @@ fn fresh_store(alloc: Global, geometry: &Geometry, plan: Plan) -> Option<PageSto
 }
 
 // A device of which nothing is cached or stored.
-#[tactic(auto, using(crate::proofs::Rooms::fresh_begins, crate::proofs::Rooms::fresh_room))]
+#[tactic(auto, using(ff_device::proofs::Rooms::fresh_begins, ff_device::proofs::Rooms::fresh_room))]
 fn fresh_device(alloc: Global, geometry: &Geometry, plan: Plan) -> Option<Device<SimFlash>>
     requires limits { IsWithinLimits geometry.now }
     requires room { geometry.now.pages ≤ capacity_of geometry.now }
@@ -168,7 +168,7 @@ impl Rig {
         Some(self.device.read_line(PageNo(page), 0, hit))
     }
 
-    #[tactic(auto, using(crate::proofs::Rooms::room_for))]
+    #[tactic(auto, using(ff_device::proofs::Rooms::room_for))]
     fn has_room(&self, page: u32)
         ensures { HasRoom (lines_in self.now.device) page }
     {

@@ -1,7 +1,7 @@
 use Rattle.ff_flash.specs.Plans.{planned_of}
 use Rattle.ff_flash.specs.SimFlash.{fresh_flash}
 use Rattle.ff_device.proofs.Rooms.{fresh_begins}
-use Rattle.ff_device.proofs.tests.rig.fresh_device.Goals as goal
+use Rattle.ff_device_tests.proofs.tests.rig.fresh_device.Goals as goal
 
 pub new-requires : goal.new-requires
 new-requires c =
