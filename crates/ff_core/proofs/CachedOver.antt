@@ -1,16 +1,14 @@
 -- The cache of a device that lost its power, over its store: of one geometry, and what a page reads.
-use Rattle.std.proofs.Common.{◌≡◌, ◌+◌, ◌-◌, ◌*◌, ◌<◌, ◌≤◌, ℕ, Bool, true, false, List, [], length, Option, Some, None, inl, inr, refl, sym, ap, subst, ◌∙◌, arith}
+use Rattle.std.proofs.Common.{◌≡◌, ◌-◌, ◌*◌, ◌<◌, ◌≤◌, ℕ, Bool, true, false, List, length, Option, Some, None, refl, sym, ap, subst, ◌∙◌, arith}
 use Rattle.std.specs.Prelude.{◌||◌, is_some}
-use Rattle.std.proofs.Math.ListN.{get_or}
 use Rattle.std.proofs.Math.Nat.{le_of_mul-le-mul_right, mul-le-mul}
 use Rattle.ff_base.specs.Geometry.{capacity_of}
 use Rattle.ff_base.specs.declared.geometry.Geometry.{Geometry}
 use Rattle.ff_base.specs.declared.numbers.PageNo.{PageNo}
-use Rattle.ff_cache.specs.Cache.{CacheView}
 use Rattle.ff_cache.specs.Slots.{held}
 use Rattle.ff_cache.specs.declared.slot.Slot.{Slot}
 use Rattle.ff_device.proofs.SeenPages.{length-pages, seen_bytes, stored_at}
-use Rattle.ff_device.specs.Device.{DeviceView, own_of, parts_of}
+use Rattle.ff_device.specs.Device.{DeviceView, parts_of}
 use Rattle.ff_device.specs.Parts.{IsDeviceSound, bytes_over, is_written as is_written_part, line_below, slot_passes}
 use Rattle.ff_device.specs.StoreState.{bytes_at, flush_at, seen_of, stored_bytes}
 use Rattle.ff_device.specs.declared.device.DeviceOwn.{DeviceOwn}
@@ -27,11 +25,10 @@ use Rattle.ff_mount.specs.Held.{held_bytes}
 use Rattle.ff_mount.specs.Over.{HasDirtySlot, IsCacheOver, is_dirty_slot, is_written, slot_bytes}
 use Rattle.ff_cache.specs.Nv.{ways_of}
 use Rattle.ff_store.specs.PageStore.{PageStoreView}
-use Rattle.ff_store.specs.Pages.{is_mapped, page_capacity}
+use Rattle.ff_store.specs.Pages.{page_capacity}
 use Rattle.ff_store.specs.declared.pending.Pending.{Pending}
 use Rattle.ff_core.specs.Core.{CoreView}
 use Rattle.ff_core.specs.CoreSound.{IsCoreSound}
-use Rattle.ff_core.specs.Hierarchy.{lines_under}
 use Rattle.ff_core.specs.Losing.{IsPoweredDown}
 
 -- as many blocks as the capacity is of

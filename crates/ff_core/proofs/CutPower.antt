@@ -1,5 +1,5 @@
 -- A core whose power is cut between two events keeps what it kept.
-use Rattle.std.proofs.Common.{◌≡◌, ℕ, Bool, true, false, cond, inl, refl, sym, ap, subst, ◌∙◌, arith}
+use Rattle.std.proofs.Common.{◌≡◌, Bool, true, false, cond, inl, refl, sym, ap, subst, arith}
 use Rattle.ff_calls.proofs.ToldMoved.{told-worked}
 use Rattle.ff_flash.specs.FlashState.{FlashState, powered_off}
 use Rattle.ff_lines.specs.DeviceState.{IsDevice}

@@ -1,5 +1,5 @@
 -- What the record of a session keeps.
-use Rattle.std.proofs.Common.{◌≡◌, ◌≤◌, ◌+◌, ◌*◌, ℕ, length, subst, mul_comm, refl, sym, ap, ◌∙◌, arith}
+use Rattle.std.proofs.Common.{◌≡◌, ◌≤◌, ◌+◌, ◌*◌, ℕ, length, subst, mul_comm, refl, arith}
 use Rattle.ff_model.specs.Legal.{IsLegal, Opening, next_event}
 use Rattle.ff_policy.specs.Policy.{IsPolicySound}
 use Rattle.ff_store.specs.PageStore.{IsStoreSound}

@@ -1,5 +1,5 @@
 -- What a session leaves at a loss of power.
-use Rattle.std.proofs.Common.{◌≡◌, ◌-◌, ◌≤◌, ℕ, Bool, List, ◌==◌, length, take, refl, sym, ap, subst, ◌∙◌, arith}
+use Rattle.std.proofs.Common.{◌≡◌, ◌-◌, ℕ, List, ◌==◌, length, take, refl, sym, ap, subst, ◌∙◌, arith}
 use Rattle.std.specs.Prelude.{min, slice_index}
 use Rattle.std.specs.Int.{bit_at}
 use Rattle.std.proofs.Math.Path.{fun_ext}
@@ -14,7 +14,6 @@ use Rattle.ff_kept.specs.Posted.{byte_in_lines}
 use Rattle.ff_lines.specs.BlankLine.{line_or_blank}
 use Rattle.ff_lines.specs.DeviceState.{IsDevice}
 use Rattle.ff_lines.specs.Posts.{laid}
-use Rattle.ff_lines.specs.declared.post.Post.{Post}
 use Rattle.ff_memory.specs.Memory.{IsMemorySound}
 use Rattle.ff_model.specs.Callers.{is_marked}
 use Rattle.ff_mount.proofs.Contents.{content_line}
@@ -26,7 +25,7 @@ use Rattle.ff_core.specs.Account.{IsAccountOf, start_of}
 use Rattle.ff_core.specs.Core.{CoreView}
 use Rattle.ff_core.specs.CoreSound.{IsCoreSound}
 use Rattle.ff_core.specs.Hierarchy.{HierarchyView, flash_under, lines_under}
-use Rattle.ff_core.specs.Losing.{AreMarksAfter, IsLossOf, IsPoweredDown, kept_after}
+use Rattle.ff_core.specs.Losing.{IsLossOf, IsPoweredDown, kept_after}
 use Rattle.ff_core.specs.Record.{IsRecordSound, RecordView, record_of}
 use Rattle.ff_core.proofs.CachedOver.{cache_over, left_lines}
 use Rattle.ff_core.proofs.Ending.{account_of, record_sound}

@@ -10,7 +10,6 @@ use Rattle.ff_core.specs.Drives.{IsEvent, cut}
 use Rattle.ff_core.specs.Hierarchy.{flash_under}
 use Rattle.ff_core.specs.Losing.{core_off}
 use Rattle.ff_core.specs.Until.{GoesUntil, IsEventUntil}
-use Rattle.ff_core.specs.declared.turn.Turn.{Turn}
 use Rattle.ff_core.specs.declared.turn.Turn.TheVariants.{Miss, Off}
 use Rattle.ff_core.proofs.Powered.{stays_more}
 use Rattle.ff_core.proofs.PoweredDown.{off_down, off_same}

@@ -1,5 +1,5 @@
 -- What a background turn leaves of a session, and that the log has it.
-use Rattle.std.specs.Prelude.{ℕ, ◌+◌, ◌≤◌, ◌≡◌, false}
+use Rattle.std.specs.Prelude.{◌+◌, ◌≤◌, ◌≡◌, false}
 use Rattle.ff_model.specs.declared.counts.Kind.{Kind}
 use Rattle.ff_core.specs.Backs.{turned_now, with_logged}
 use Rattle.ff_core.specs.Core.{CoreView}

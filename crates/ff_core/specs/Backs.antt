@@ -1,5 +1,5 @@
 -- What a background turn makes of a core.
-use Rattle.std.specs.Prelude.{ℕ, ◌≡◌, ◌==◌, ◌∷◌, ◌++◌, [], Bool, true, false, List, length, Option, Some, None}
+use Rattle.std.specs.Prelude.{ℕ, ◌≡◌, ◌==◌, ◌∷◌, ◌++◌, [], Bool, true, false, length, Option, Some, None}
 use Rattle.ff_base.specs.Count.{last_event}
 use Rattle.ff_memory.specs.declared.access.What.TheVariants.{Worked}
 use Rattle.ff_model.specs.declared.counts.Kind.{Kind}

@@ -1,5 +1,5 @@
 -- What each action needs.
-use Rattle.std.specs.Prelude.{ℕ, ◌<◌, ◌≡◌, true, false, length, Some}
+use Rattle.std.specs.Prelude.{ℕ, ◌<◌, ◌≡◌, true, length, Some}
 use Rattle.ff_base.specs.declared.numbers.PageNo.{PageNo}
 use Rattle.ff_evict.specs.Evictor.{IsHandInside}
 use Rattle.ff_flash.specs.FlashState.{HasOperationsLeft}

@@ -1,6 +1,5 @@
 -- How a first session begins.
-use Rattle.std.specs.Prelude.{ℕ, ◌*◌, ◌≤◌, ◌≡◌, ◌^◌, [], true, replicate}
-use Rattle.ff_base.specs.Count.{last_event}
+use Rattle.std.specs.Prelude.{◌*◌, ◌≤◌, ◌≡◌, ◌^◌, [], true, replicate}
 use Rattle.ff_base.specs.Geometry.{capacity_of}
 use Rattle.ff_base.specs.declared.geometry.Geometry.{Geometry}
 use Rattle.ff_cache.specs.Cache.{fresh_cache}

@@ -1,5 +1,5 @@
 -- What a loss of power leaves of a session.
-use Rattle.std.specs.Prelude.{ℕ, ◌+◌, ◌-◌, ◌<◌, ◌≤◌, ◌≡◌, ◌==◌, List, [], length, drop, take, min, slice_index}
+use Rattle.std.specs.Prelude.{ℕ, ◌-◌, ◌<◌, ◌≤◌, ◌≡◌, ◌==◌, List, [], length, drop, take, min, slice_index}
 use Rattle.std.specs.Int.{bit_at}
 use Rattle.ff_base.specs.declared.geometry.Geometry.{Geometry}
 use Rattle.ff_cache.specs.Cache.{IsCacheSound}
@@ -19,7 +19,6 @@ use Rattle.ff_mount.specs.Sound.{AreSound}
 use Rattle.ff_store.specs.PageStore.{IsStoreSound}
 use Rattle.ff_store.specs.Recoverable.{IsRecoverable}
 use Rattle.ff_core.specs.Core.{CoreView}
-use Rattle.ff_core.specs.Hierarchy.{HierarchyView}
 use Rattle.ff_core.specs.Record.{RecordView}
 
 -- a device with its power off

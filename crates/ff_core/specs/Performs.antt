@@ -1,12 +1,11 @@
 -- What each action makes of a hierarchy.
-use Rattle.std.specs.Prelude.{ℕ, ◌+◌, ◌<◌, ◌%◌, ◌≡◌, Bool, true, false, List, length, Option, Some, None}
+use Rattle.std.specs.Prelude.{ℕ, ◌+◌, ◌%◌, ◌≡◌, Bool, true, false, length, Some}
 use Rattle.std.specs.Option.{is_some}
 use Rattle.ff_base.specs.declared.numbers.PageNo.{PageNo}
 use Rattle.ff_frames.specs.Frames.{frame_at}
-use Rattle.ff_lines.specs.DeviceState.{DeviceState}
 use Rattle.ff_lines.specs.Works.{KeepsLines, Works}
 use Rattle.ff_lines.specs.declared.device.Work.{Work}
-use Rattle.ff_lines.specs.declared.device.Work.TheVariants.{Stepped, Failed as WorkFailed, Off as WorkOff, Pinned}
+use Rattle.ff_lines.specs.declared.device.Work.TheVariants.{Failed as WorkFailed, Off as WorkOff, Pinned}
 use Rattle.ff_memory.specs.Advances.{Advances}
 use Rattle.ff_memory.specs.Begins.{IsPromoted, IsRetreated, turned_at}
 use Rattle.ff_memory.specs.Located.{IsLocated}

@@ -1,5 +1,5 @@
 -- A flash whose power no operation cuts.
-use Rattle.std.specs.Prelude.{◌≡◌, true, List, [], Some}
+use Rattle.std.specs.Prelude.{◌≡◌, true, [], Some}
 use Rattle.ff_flash.specs.FlashState.{FlashState}
 use Rattle.ff_flash.specs.Plans.{Planned}
 

@@ -1,4 +1,4 @@
-use Rattle.std.proofs.Common.{rules, subst, ◌≡◌, ◌∙◌, ap}
+use Rattle.std.proofs.Common.{rules, subst, ◌≡◌}
 use Rattle.ff_core.specs.Core.{CoreView}
 use Rattle.ff_core.specs.Hierarchy.{HierarchyView}
 use Rattle.ff_core.specs.Losing.{IsPoweredDown}

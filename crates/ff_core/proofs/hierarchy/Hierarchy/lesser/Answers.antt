@@ -1,4 +1,4 @@
-use Rattle.std.proofs.Common.{◌≤◌, sym, arith}
+use Rattle.std.proofs.Common.{sym, arith}
 use Rattle.ff_core.specs.Choices.{keeps}
 use Rattle.ff_core.proofs.hierarchy.Hierarchy.lesser.Goals as goal
 
