@@ -1,5 +1,5 @@
 -- An erased flash and an empty cache are sound.
-use Rattle.std.proofs.Common.{◌≡◌, ◌*◌, ℕ, zero, suc, Bool, false, List, [], ◌∷◌, length, get_or, Option, None, Some, inl, inr, refl, sym, ap, subst, ◌∙◌, arith}
+use Rattle.std.proofs.Common.{◌≡◌, ◌*◌, ℕ, zero, suc, Bool, false, List, length, None, inl, inr, refl, sym, ap, subst, ◌∙◌, arith}
 use Rattle.std.specs.Prelude.{replicate}
 use Rattle.std.proofs.lemmas.Bool.{cases_lt}
 use Rattle.std.proofs.lemmas.List.{get_or-replicate, get_or_past, length-replicate}
@@ -17,7 +17,7 @@ use Rattle.ff_flash.specs.SimFlash.{fresh_flash}
 use Rattle.ff_flash.specs.declared.spare.Spare.{Spare}
 use Rattle.ff_lines.specs.PageSets.{count_below}
 use Rattle.ff_mount.proofs.Sounding.{kept_placed}
-use Rattle.ff_mount.specs.Held.{best_of, is_held, nv_of, way_of_page}
+use Rattle.ff_mount.specs.Held.{is_held, nv_of, way_of_page}
 use Rattle.ff_mount.specs.Sound.{AreSound}
 use Rattle.ff_store.specs.Best.{best}
 

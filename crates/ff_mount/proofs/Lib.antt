@@ -6,4 +6,5 @@ pub mod Pages
 pub mod Planning
 pub mod ReadSteps
 pub mod Refusing
+pub mod Resuming
 pub mod Sounding

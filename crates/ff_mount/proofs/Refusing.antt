@@ -1,4 +1,4 @@
--- A mount that is refused hands back what is sound, and what a mount needs of sound content.
+-- What a mount needs of sound content, and what it makes of it or hands back.
 use Rattle.std.proofs.Common.{◌≡◌, ◌≤◌, ◌+◌, ℕ, zero, suc, Bool, true, false, List, refl, sym, ap, subst, ◌∙◌, arith}
 use Rattle.std.specs.Prelude.{◌||◌, count_by, is_some, Result, Ok, Err, IfErr, IfOk}
 use Rattle.std.specs.List.{range_with_len}
