@@ -6,7 +6,9 @@ pub mod Fresh
 pub mod Mounting
 pub mod PagePrograms
 pub mod Pigeons
+pub mod Probes
 pub mod Remaining
+pub mod Remounting
 pub mod Rooms
 pub mod Settled
 pub mod Settling

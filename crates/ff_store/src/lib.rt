@@ -5,10 +5,12 @@
 mod collecting;
 mod flushing;
 mod pending;
+mod remount;
 mod store;
 mod writing;
 
 pub use pending::Pending;
+pub use remount::{StoreBack, StoreStop};
 pub use store::{FlushStep, PageStore};
 
 #[cfg(test)]

@@ -1,0 +1,9 @@
+pub mod Covered
+pub mod Found
+pub mod Mapped
+pub mod Placed
+pub mod Probes
+pub mod Probing
+pub mod Scan
+pub mod ScanFields
+pub mod Tops
