@@ -12,7 +12,9 @@ use Rattle.ff_base.specs.declared.geometry.Geometry.{Geometry}
 use Rattle.ff_base.specs.declared.numbers.Block.{Block}
 use Rattle.ff_base.specs.declared.numbers.PageNo.{PageNo}
 use Rattle.ff_flash.specs.Cells.{Cell, cell_at, cell_bytes, erased, sealed}
-use Rattle.ff_flash.specs.FlashState.{FlashState}
+use Rattle.ff_flash.specs.FlashState.{FlashState, powered_up}
+use Rattle.ff_flash.specs.declared.flash.FlashStop.{FlashStop}
+use Rattle.ff_flash.specs.declared.flash.FlashStop.TheVariants.{Failed as FlashFailed, Off as FlashOff}
 use Rattle.ff_flash.specs.declared.spare.Spare.{Spare}
 use Rattle.ff_space.specs.Blocks.{state_by_next}
 use Rattle.ff_space.specs.BlockTable.{IsInState, TableView, block_at}
@@ -24,18 +26,21 @@ use Rattle.ff_map.specs.declared.places.Mapping.{Mapping}
 use Rattle.ff_scan.proofs.Newest.{sealed_within}
 use Rattle.ff_scan.specs.Found.{IsFoundPage, IsNewest, IsOneAbove, IsScan, found_state}
 use Rattle.ff_scan.specs.Probes.{probes_of}
+use Rattle.ff_scan.specs.Probing.{IsStopped}
 use Rattle.ff_gc.proofs.Counting.{count_fewer, count_zero}
 use Rattle.ff_gc.proofs.Numbers.{block_within, place_is}
 use Rattle.ff_gc.specs.Cells.{AreMapped, AreSealed, HasNewer, IsSafe}
 use Rattle.ff_gc.specs.Collector.{CollectorView, mounted_phase, new_collector}
 use Rattle.ff_gc.specs.Running.{IsAt, IsLive, IsTabled, is_in, mapped_in}
 use Rattle.ff_store.proofs.Bests.{IsBest, best_is, sealed_holds}
-use Rattle.ff_store.proofs.Mounting.{best_bytes}
+use Rattle.ff_store.proofs.Mounting.{best_bytes, covered, few_sealed}
 use Rattle.ff_store.proofs.Probes.{cell_erased, cell_sealed, probe_sealed}
 use Rattle.ff_store.specs.Best.{Version, best, bytes_or_zeros, sealed_count}
 use Rattle.ff_store.specs.PageStore.{IsAlways, IsStoreSound, PageStoreView}
 use Rattle.ff_store.specs.Pages.{mapped_count}
-use Rattle.ff_store.specs.Remounted.{IsRemountable, IsRemounted, block_to_erase, found_store}
+use Rattle.ff_store.specs.Remounted.{IsHandedBack, IsOfGeometry, IsRemountable, IsRemounted, block_to_erase, found_store}
+use Rattle.ff_store.specs.declared.remount.StoreStop.{StoreStop}
+use Rattle.ff_store.specs.declared.remount.StoreStop.TheVariants.{NoMemory, Failed, Off}
 
 -- a page's mapping is the newest outside the spare block
 newest : (g : Geometry) (cells : List Cell) (spare : ℕ) (table : TableView) (places : MapView) (page : PageNo) (m : Mapping)
@@ -137,15 +142,15 @@ few_mapped g cells spare table places scan =
     count_fewer (λ (m : Option Mapping). is_some m) (λ n. is_some (best cells (record { 0 = n })))
     places.pages (range_with_len 0 g.pages) None g.pages (scan.page_count ∙ sym sizes)
     (λ n below has.
-      (let page : PageNo = record { 0 = n } in
-      let count = scan.page_count in
-      let within : n < g.pages = omega arith in
-      let number : get_or (range_with_len 0 g.pages) n g.pages ≡ n =
-      (let is = get_or-range_with_len 0 g.pages n g.pages within in omega arith) in
-      ap (λ (k : ℕ). is_some (best cells (record { 0 = k }))) number
-      ∙ mapped_some (mapping_of places page) (is_some (best cells page) ≡ true) has
-      (λ m is. best_some cells page (best cells page) m.at.0 m.version _ (best_is cells page)
-        (placed g cells spare table places page m scan is))))
+    (let page : PageNo = record { 0 = n } in
+    let count = scan.page_count in
+    let within : n < g.pages = omega arith in
+    let number : get_or (range_with_len 0 g.pages) n g.pages ≡ n =
+    (let is = get_or-range_with_len 0 g.pages n g.pages within in omega arith) in
+    ap (λ (k : ℕ). is_some (best cells (record { 0 = k }))) number
+    ∙ mapped_some (mapping_of places page) (is_some (best cells page) ≡ true) has
+    (λ m is. best_some cells page (best cells page) m.at.0 m.version _ (best_is cells page)
+    (placed g cells spare table places page m scan is))))
 
 -- a state of a block that isn't held
 found_held : (per next : ℕ) (is_spare : Bool) → found_state per is_spare next ≢ Held
@@ -211,11 +216,11 @@ spare_unmapped g cells spare table places scan =
     scan.mapped spare scan.spare_is.has.in_range
     ∙ count_zero (λ (m : Option Mapping). is_in g.per_block spare m) places.pages None
     (λ n. not_in (record { 0 = n }) (mapping_of places (record { 0 = n })) (scan.pages (record { 0 = n })))
-    where
-      not_in : (page : PageNo) (o : Option Mapping) → IsFoundPage g.per_block (probes_of cells) spare page o
-          → is_in g.per_block spare o ≡ false
-      not_in page None found = refl
-      not_in page (Some m) found = ne_eqb (m.at.0 / g.per_block) spare found.there.outside
+  where
+    not_in : (page : PageNo) (o : Option Mapping) → IsFoundPage g.per_block (probes_of cells) spare page o
+        → is_in g.per_block spare o ≡ false
+    not_in page None found = refl
+    not_in page (Some m) found = ne_eqb (m.at.0 / g.per_block) spare found.there.outside
 
 tabled : (g : Geometry) (cells : List Cell) (spare : ℕ) (table : TableView) (places : MapView) → 0 < g.per_block
     → length cells ≡ g.blocks * g.per_block → IsScan g (probes_of cells) spare table places
@@ -318,19 +323,74 @@ remounted_bytes g s spare sound scan is = record {
       (λ p waits. absurd (none-some p (sym (ap (λ (x : PageStoreView). x.waits) is) ∙ waits))));
 }
 
+sealed_later : (g : Geometry) (flash : FlashState) (operations : ℕ) → flash.operations ≤ operations → IsRemountable g flash
+    → AreSealed g.pages operations flash.cells
+sealed_later g flash operations rise sound = record {
+  same = sound.sealed_cells.same;
+  page = sound.sealed_cells.page;
+  least = sound.sealed_cells.least;
+  most = λ a x spare is. (let most = sound.sealed_cells.most a x spare is in omega arith);
+  full = sound.sealed_cells.full;
+}
+
 -- operations that change no cell leave a flash as sound as it was
 pub remountable_later : (g : Geometry) (flash : FlashState) (count : ℕ) → IsRemountable g flash
     → IsRemountable g (record flash { operations = flash.operations + count })
 remountable_later g flash count sound = record {
   blocks = sound.blocks;
   per_block = sound.per_block;
-  sealed_cells = record {
-    same = sound.sealed_cells.same;
-    page = sound.sealed_cells.page;
-    least = sound.sealed_cells.least;
-    most = λ a x spare is. (let most = sound.sealed_cells.most a x spare is in omega arith);
-    full = sound.sealed_cells.full;
-  };
+  sealed_cells = sealed_later g flash (flash.operations + count) (omega arith) sound;
   covered = sound.covered;
   few = sound.few;
+}
+
+-- so a power loss leaves a flash that can be mounted, whatever the store did
+pub remountable : (g : Geometry) (s : PageStoreView) → IsStoreSound s → IsOfGeometry g s.world
+    → IsRemountable g s.world.flash
+remountable g s sound sizes =
+    let always = sound.always in
+    let few = few_sealed s always in
+    let has = covered s always in
+    record {
+      blocks = sound.fits.blocks ∙ sizes.blocks;
+      per_block = sound.fits.per_block ∙ sizes.per_block;
+      sealed_cells = rw (sym sizes.pages) always.safe.sealed_cells;
+      covered = rw (sym sizes.blocks, sym sizes.per_block) has;
+      few = rw (sym sizes.blocks, sym sizes.per_block, sym sizes.pages) few;
+    }
+
+-- the power is turned on
+pub remountable_up : (g : Geometry) (flash : FlashState) → IsRemountable g flash → IsRemountable g (powered_up flash)
+remountable_up g flash sound = record {
+  blocks = sound.blocks;
+  per_block = sound.per_block;
+  sealed_cells = sound.sealed_cells;
+  covered = sound.covered;
+  few = sound.few;
+}
+
+stopped_remountable : (g : Geometry) (old new : FlashState) (stop : FlashStop) → IsRemountable g old
+    → IsStopped (powered_up old) stop new → IsRemountable g new
+stopped_remountable g old new stop sound is = record {
+  blocks = is.same.blocks ∙ sound.blocks;
+  per_block = is.same.per_block ∙ sound.per_block;
+  sealed_cells = rw is.cells (sealed_later g old new.operations is.rise sound);
+  covered = rw is.cells sound.covered;
+  few = rw is.cells sound.few;
+}
+
+-- a flash that was handed back can be mounted again
+pub remountable_again : (g : Geometry) (old new : FlashState) (stop : StoreStop) → IsRemountable g old
+    → IsHandedBack old stop new → IsRemountable g new
+remountable_again g old new NoMemory sound back =
+    subst (λ (f : FlashState). IsRemountable g f) (sym back) (remountable_up g old sound)
+remountable_again g old new Failed sound back = stopped_remountable g old new FlashFailed sound back
+remountable_again g old new Off sound back = stopped_remountable g old new FlashOff sound back
+
+-- the sizes of a store that was made so
+pub remounted_sizes : (g : Geometry) (s : PageStoreView) → IsRemounted g s → IsOfGeometry g s.world
+remounted_sizes g s is = record {
+  blocks = is.scan.block_count;
+  per_block = ap (λ (x : PageStoreView). x.world.gc.per_block) is.store;
+  pages = is.scan.page_count;
 }

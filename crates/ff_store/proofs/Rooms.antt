@@ -1,17 +1,21 @@
 -- When a flush has room.
-use Rattle.std.proofs.Common.{◌≡◌, ◌<◌, ◌≤◌, true, false, length, set, Option, None, Some, inl, inr, refl, sym, subst, arith}
+use Rattle.std.proofs.Common.{◌≡◌, ◌<◌, ◌≤◌, true, false, length, set, Option, None, Some, inl, inr, refl, sym, subst, ◌∙◌, arith}
 use Rattle.std.specs.Prelude.{is_some, option_map}
 use Rattle.std.proofs.lemmas.Bool.{cases_Bool}
 use Rattle.std.proofs.lemmas.List.{length-set}
 use Rattle.std.proofs.lemmas.List.Sums.{count_by-le-length}
+use Rattle.ff_base.specs.Geometry.{capacity_of}
+use Rattle.ff_base.specs.declared.geometry.Geometry.{Geometry}
 use Rattle.ff_base.specs.declared.numbers.PageNo.{PageNo}
 use Rattle.ff_flash.specs.declared.flash.FlashStop.{FlashStop}
 use Rattle.ff_map.specs.PageMap.{MapView}
 use Rattle.ff_map.specs.declared.places.Mapping.{Mapping}
+use Rattle.ff_gc.specs.World.{World}
 use Rattle.ff_store.proofs.Settling.{mapped_count_with}
 use Rattle.ff_store.specs.Calls.{IsCall, waiting_page}
 use Rattle.ff_store.specs.PageStore.{PageStoreView}
 use Rattle.ff_store.specs.Pages.{HasRoomForAll, mapped_with, page_capacity}
+use Rattle.ff_store.specs.Remounted.{IsOfGeometry}
 use Rattle.ff_store.specs.declared.pending.Pending.{Pending}
 
 -- no more pages are mapped than there are
@@ -56,3 +60,25 @@ some_by (Some p) is = refl
 -- a flush waits
 pub some_waits : (s : PageStoreView) → is_some (waiting_page s) ≡ true → is_some s.waits ≡ true
 some_waits s is = some_by s.waits is
+
+-- a call leaves the sizes as they were
+pub sizes_after : (g : Geometry) (old new : PageStoreView) (stop : Option FlashStop)
+    → (old.world.flash.on ≡ false → new ≡ old) → (old.world.flash.on ≡ true → IsCall old stop new)
+    → IsOfGeometry g old.world → IsOfGeometry g new.world
+sizes_after g old new stop off call sizes = elim (cases_Bool old.world.flash.on) [
+  | inl on ↦
+      let same = (call on).same in
+      record {
+        blocks = same.blocks ∙ sizes.blocks;
+        per_block = same.per_block ∙ sizes.per_block;
+        pages = same.pages ∙ sizes.pages;
+      }
+  | inr down ↦ subst (λ (s : PageStoreView). IsOfGeometry g s.world) (sym (off down)) sizes
+]
+
+-- a geometry with room for all its pages
+pub room_of : (g : Geometry) (w : World) → IsOfGeometry g w → g.pages ≤ capacity_of g → HasRoomForAll w
+room_of g w sizes room =
+    let capacity : page_capacity w ≡ capacity_of g = rw (sizes.blocks, sizes.per_block) refl in
+    let pages = sizes.pages in
+    omega arith

@@ -15,7 +15,7 @@ use Rattle.ff_scan.specs.Probes.{probes_of}
 use Rattle.ff_scan.specs.Probing.{IsStopped, first_stop}
 use Rattle.ff_gc.specs.Cells.{AreSealed, HasCovered}
 use Rattle.ff_gc.specs.Collector.{mounted_phase, new_collector}
-use Rattle.ff_gc.specs.World.{page_bytes}
+use Rattle.ff_gc.specs.World.{World, page_bytes}
 use Rattle.ff_store.specs.Best.{best, bytes_or_zeros, sealed_count}
 use Rattle.ff_store.specs.PageStore.{PageStoreView, new_store}
 use Rattle.ff_store.specs.declared.remount.StoreStop.{StoreStop}
@@ -28,6 +28,12 @@ pub record IsRemountable (g : Geometry) (flash : FlashState) : Type 0 where
   pub sealed_cells : AreSealed g.pages flash.operations flash.cells
   pub covered : HasCovered g.blocks g.per_block flash.cells
   pub few : sealed_count g.pages flash.cells ≤ capacity_of g
+
+-- table, collector and map have the sizes of this geometry
+pub record IsOfGeometry (g : Geometry) (w : World) : Type 0 where
+  pub blocks : length w.table.blocks ≡ g.blocks
+  pub per_block : w.gc.per_block ≡ g.per_block
+  pub pages : length w.places.pages ≡ g.pages
 
 -- the spare block, where it isn't erased
 abbrev pub block_to_erase : TableView → ℕ → Option Block

@@ -26,6 +26,7 @@ pub enum StoreStop {
 }
 
 /// A flash that is handed back.
+#[derive(Drop)]
 pub struct StoreBack<F> {
     pub flash: F,
     pub stop: StoreStop,
@@ -135,12 +136,7 @@ impl<F: Flash> PageStore<F> {
         }
     }
 
-    fn settle(
-        flash: F,
-        scan: Scan,
-        collector: Collector,
-        geometry: &Geometry,
-    ) -> PageStore<F>
+    fn settle(flash: F, scan: Scan, collector: Collector, geometry: &Geometry) -> PageStore<F>
         requires geometry { IsWithinLimits geometry.now }
         requires size { length (F.state flash).cells
             ≡ geometry.now.blocks * geometry.now.per_block }

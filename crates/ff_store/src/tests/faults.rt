@@ -92,3 +92,25 @@ fn a_cut_leaves_what_is_stored(rt: HostRuntime) -> Result<(), Fail> {
     }
     Ok(())
 }
+
+#[test]
+fn a_mount_finds_what_is_stored(rt: HostRuntime) -> Result<(), Fail> {
+    let mut page = PageBuf::new(rt.alloc())?;
+    for made in 0..OPERATIONS {
+        for mask in [0, 1, 3] {
+            let mut rig = rig_of(&rt, rt.alloc(), &small(4, 1), Fault::Cut(made, mask));
+            let wanted = flush_until_cut(&mut rig, &mut page, mask);
+            let mut rig = rig
+                .remount(rt.alloc())
+                .expect(&rt, "a mount that was refused");
+            let probed = u64::from(made) + 1 + 8;
+            assert_eq!(rt; rig.store().flash().operation_count(), probed);
+            check_bytes(&rt, &mut rig, &mut page, &wanted);
+            assert!(rt;
+                !flush_all(&rt, &mut rig, &mut page),
+                "after {made} with {mask}"
+            );
+        }
+    }
+    Ok(())
+}

@@ -1,9 +1,10 @@
 // A store with room for all its pages, whose calls see to it that they may be made.
-ghost use Rattle.std.specs.Prelude.{◌≡◌, ◌<◌, ◌≤◌, IfOk, IsTrue, None, is_some, length};
+ghost use Rattle.std.specs.Prelude.{◌≡◌, ◌<◌, ◌≤◌, ◌^◌, IfOk, IsTrue, None, is_some, length};
 ghost use Rattle.ff_base.specs.Geometry.{IsWithinLimits, capacity_of};
 ghost use Rattle.ff_flash.specs.FlashState.{HasOperationsLeft};
 ghost use Rattle.ff_flash.specs.Plans.{IsPlan, planned_of};
 ghost use Rattle.ff_store.specs.Pages.{HasRoomForAll, mapped_with, page_capacity};
+ghost use Rattle.ff_store.specs.Remounted.{IsOfGeometry, IsRemountable};
 
 use crate::{FlushStep, PageStore};
 use ff_base::{Geometry, NoMemory, PageBuf, PageNo};
@@ -16,8 +17,10 @@ pub type Step = Option<Result<FlushStep, FlashStop>>;
 
 #[derive(Drop)]
 pub struct Rig {
+    geometry: Geometry,
     store: PageStore<SimFlash>,
     ghost room: { HasRoomForAll store.world },
+    ghost sizes: { IsOfGeometry geometry store.world },
 }
 
 /// How the flash is made to go.
@@ -71,7 +74,7 @@ fn may_seal(store: &PageStore<SimFlash>) -> bool
     store.flash().operation_count() < 1 << 63 && store.pending().is_some()
 }
 
-#[tactic(auto, using(crate::proofs::Rooms::room_for, crate::proofs::Rooms::room_after))]
+#[tactic(auto, using(crate::proofs::Rooms::room_for, crate::proofs::Rooms::room_after, crate::proofs::Rooms::sizes_after))]
 impl Rig {
     pub fn new(alloc: Global, geometry: &Geometry, fault: Fault) -> Option<Rig> {
         if geometry.check().is_err() || geometry.capacity() < geometry.pages {
@@ -90,7 +93,10 @@ impl Rig {
     {
         match SimFlash::new(alloc, geometry, plan) {
             Ok(flash) => match PageStore::new(alloc, flash, geometry) {
-                Ok(store) => Some(Rig { store }),
+                Ok(store) => Some(Rig {
+                    geometry: *geometry,
+                    store,
+                }),
                 Err(_) => None,
             },
             Err(_) => None,
@@ -145,8 +151,51 @@ impl Rig {
         self.store.power_off();
     }
 
+    /// The rig over what a power loss leaves.
+    pub fn remount(self, alloc: Global) -> Option<Rig> {
+        let Rig { geometry, store } = self;
+        mounted(alloc, left(store, &geometry), &geometry)
+    }
+
     pub fn into_flash(self) -> SimFlash {
         self.store.into_flash()
+    }
+}
+
+// The flash that a power loss leaves of a store.
+fn left(store: PageStore<SimFlash>, geometry: &Geometry) -> SimFlash
+    requires { IsOfGeometry geometry.now store.world }
+    ensures { IsRemountable geometry.now result }
+{
+    store.known();
+    store.into_flash()
+}
+
+fn mounted(alloc: Global, flash: SimFlash, geometry: &Geometry) -> Option<Rig>
+    requires { IsRemountable geometry.now flash }
+{
+    if geometry.check().is_err() || geometry.capacity() < geometry.pages {
+        return None;
+    }
+    if flash.operation_count() > 1 << 62 {
+        return None;
+    }
+    over_remounted(alloc, flash, geometry)
+}
+
+#[tactic(auto, using(crate::proofs::Rooms::room_of, crate::proofs::Remounting::remounted_sizes))]
+fn over_remounted(alloc: Global, flash: SimFlash, geometry: &Geometry) -> Option<Rig>
+    requires geometry { IsWithinLimits geometry.now }
+    requires room { geometry.now.pages ≤ capacity_of geometry.now }
+    requires sound { IsRemountable geometry.now flash }
+    requires life { flash.operations ≤ 2 ^ 62 }
+{
+    match PageStore::remount(alloc, flash, geometry) {
+        Ok(store) => Some(Rig {
+            geometry: *geometry,
+            store,
+        }),
+        Err(_) => None,
     }
 }
 
