@@ -26,6 +26,11 @@ pub mod Powered
 pub mod Promotable
 pub mod Recounting
 pub mod RestFalls
+pub mod ResumeBorn
+pub mod ResumeDevice
+pub mod ResumeHeld
+pub mod ResumeMounted
+pub mod ResumeSound
 pub mod Running
 pub mod Sides
 pub mod Sizes

@@ -17,6 +17,7 @@ ghost use Rattle.ff_core.specs.Uncut.{StaysOn};
 
 mod driving;
 mod ending;
+mod resuming;
 
 use crate::fresh::{FreshBack, fresh_state};
 use crate::log::{Back, Log};
