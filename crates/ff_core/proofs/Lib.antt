@@ -30,6 +30,7 @@ pub mod ResumeBorn
 pub mod ResumeDevice
 pub mod ResumeHeld
 pub mod ResumeMounted
+pub mod ResumeRemounted
 pub mod ResumeSound
 pub mod Running
 pub mod Sides

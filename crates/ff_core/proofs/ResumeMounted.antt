@@ -1,19 +1,15 @@
 -- Over which mounted parts a session may begin.
-use Rattle.std.specs.Prelude.{◌||◌, is_some, replicate}
-use Rattle.std.proofs.Common.{◌≡◌, ◌≤◌, ◌<◌, ◌+◌, ◌-◌, ◌*◌, ◌^◌, ℕ, zero, suc, Bool, true, false, cond, List, [], ◌∷◌, length, count_by, get_or, Option, Some, None, refl, sym, ap, ap₂, subst, ◌∙◌, arith}
-use Rattle.std.proofs.Math.ListN.{get_or-map as get_or-map_all}
+use Rattle.std.proofs.Common.{◌≡◌, ◌≤◌, ◌+◌, ◌^◌, ℕ, Bool, true, false, cond, List, [], ◌∷◌, length, Option, Some, refl, sym, ap, ◌∙◌}
 use Rattle.std.proofs.lemmas.Option.{none-some, same_Some}
-use Rattle.ff_base.specs.Geometry.{IsWithinLimits, capacity_of}
 use Rattle.ff_base.specs.declared.geometry.Geometry.{Geometry}
-use Rattle.ff_base.specs.declared.numbers.PageNo.{PageNo}
-use Rattle.ff_cache.specs.Cache.{CacheView, fresh_cache}
+use Rattle.ff_cache.specs.Cache.{CacheView}
 use Rattle.ff_cache.specs.Nv.{IsFromNv, NvWay, slot_of, slots_of}
-use Rattle.ff_cache.specs.Slots.{empty_slot, held, holds}
+use Rattle.ff_cache.specs.Slots.{held, holds}
 use Rattle.ff_cache.specs.declared.slot.Slot.{Slot}
-use Rattle.ff_lines.specs.PageSets.{count_below}
-use Rattle.ff_mount.specs.Over.{IsCacheOver, is_dirty_slot, is_written}
+use Rattle.ff_mount.specs.Over.{IsCacheOver}
 use Rattle.ff_mount.specs.Reading.{after_reads}
 use Rattle.ff_store.specs.PageStore.{PageStoreView}
+use Rattle.ff_store.specs.Remounted.{IsRemounted}
 use Rattle.ff_core.specs.Resume.{CanResume, IsUnpinned}
 
 unpinned-first : (first : Bool) (way : NvWay) (rest : Option Slot) (slot : Slot)
@@ -31,6 +27,20 @@ unpinned-ways (way ∷ later) page slot is =
 pub mounted_unpinned : (sets ways : ℕ) (kept : List NvWay) (cache : CacheView) → IsFromNv sets ways kept cache → IsUnpinned cache
 mounted_unpinned sets ways kept cache from page slot is =
     unpinned-ways kept page slot (ap (λ (slots : List Slot). held slots page) (sym from.slots) ∙ is)
+
+-- a session may begin over what a mount makes
+pub resume_mounted : (g : Geometry) (s : PageStoreView) (cache : CacheView) (kept : List NvWay) (marks : List ℕ) (event : ℕ)
+    → IsRemounted g s → IsFromNv g.sets g.ways kept cache → IsCacheOver g s cache → length marks ≡ g.pages
+    → s.world.flash.on ≡ true → s.world.flash.operations ≤ 2 ^ 62 + event → event ≤ 2 ^ 62 → CanResume g s cache marks event
+resume_mounted g s cache kept marks event is from over marked on life not_past = record {
+  over = over;
+  none = ap (λ (x : PageStoreView). x.waits) is.store;
+  unpinned = mounted_unpinned g.sets g.ways kept cache from;
+  marked = marked;
+  on = on;
+  life = life;
+  not_past = not_past;
+}
 
 over-read : (g : Geometry) (s : PageStoreView) (cache : CacheView) (n : ℕ) → IsCacheOver g s cache
     → IsCacheOver g (after_reads s n) cache

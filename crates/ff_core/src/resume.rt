@@ -284,7 +284,9 @@ pub fn resumed_state<F: Flash, T: Tune, E: Pick>(
         });
     };
     match Policy::new(alloc, geometry.pages, tuner) {
-        Ok(policy) => resumed_over(alloc, mounted, geometry, supplies, policy, picker, from_event),
+        Ok(policy) => resumed_over(
+            alloc, mounted, geometry, supplies, policy, picker, from_event,
+        ),
         Err(tuner) => Err(ResumeBack {
             mounted,
             tuner,

@@ -41,7 +41,9 @@ impl<F: Flash, T: Tune, E: Pick> Core<F, T, E> {
     {
         room.known();
         parts_known(&mounted);
-        match resumed_state(alloc, mounted, base, geometry, tuner, picker, room, from_event) {
+        match resumed_state(
+            alloc, mounted, base, geometry, tuner, picker, room, from_event,
+        ) {
             Ok(state) => Ok(Core { state }),
             Err(back) => Err(back),
         }
