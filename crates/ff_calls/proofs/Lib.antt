@@ -10,5 +10,6 @@ pub mod ToldLoaded
 pub mod ToldMarked
 pub mod ToldMissed
 pub mod ToldMoved
+pub mod ToldResumed
 pub mod ToldServed
 pub mod ToldStored

@@ -31,6 +31,12 @@ pub mod PoweredDown
 pub mod Promotable
 pub mod Recounting
 pub mod RestFalls
+pub mod ResumeBorn
+pub mod ResumeDevice
+pub mod ResumeHeld
+pub mod ResumeMounted
+pub mod ResumeRemounted
+pub mod ResumeSound
 pub mod Running
 pub mod Sides
 pub mod Sizes

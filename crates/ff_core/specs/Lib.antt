@@ -15,6 +15,7 @@ pub mod Misses
 pub mod Performs
 pub mod Record
 pub mod RecordFields
+pub mod Resume
 pub mod Serving
 pub mod Tally
 pub mod Turns

@@ -18,6 +18,7 @@ ghost use Rattle.ff_core.specs.Uncut.{StaysOn};
 mod driving;
 mod ending;
 mod losing;
+mod resuming;
 mod until;
 
 use crate::fresh::{FreshBack, fresh_state};

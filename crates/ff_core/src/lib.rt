@@ -9,6 +9,7 @@ mod fresh;
 mod hierarchy;
 mod log;
 mod next;
+mod resume;
 mod state;
 mod tally;
 #[cfg(test)]
@@ -20,5 +21,6 @@ pub use action::{Action, Progress};
 pub use core_state::{Core, Ended, Lost, Room};
 pub use fresh::FreshBack;
 pub use log::{Back, Log, Turned};
+pub use resume::ResumeBack;
 pub use tally::Tally;
 pub use turn::{Driven, Turn};

@@ -49,7 +49,7 @@ past_by g nv flash page None (Some one) sound past is best_now =
 past_by g nv flash page None None sound past is best_now = refl
 
 -- no page past the last is held
-unheld_past : (g : Geometry) (nv : NvView) (flash : FlashState) (page : ℕ) → AreSound g nv flash → g.pages ≤ page
+pub unheld_past : (g : Geometry) (nv : NvView) (flash : FlashState) (page : ℕ) → AreSound g nv flash → g.pages ≤ page
     → is_held nv.slots flash.cells page ≡ false
 unheld_past g nv flash page sound past =
     past_by g nv flash page (way_of_page nv.slots page) (best_of flash.cells page) sound past refl

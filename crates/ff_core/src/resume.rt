@@ -1,0 +1,344 @@
+// How a session begins over a mounted store and cache.
+ghost use Rattle.std.specs.Prelude.{◌≡◌, ◌<◌, length, replicate, if◌then◌else◌, is_some, IfOk, IfErr, MatchResult, [], None, false};
+ghost use Rattle.ff_base.specs.Geometry.{IsWithinLimits, capacity_of};
+ghost use Rattle.ff_frames.specs.Frame.{free_frame};
+ghost use Rattle.ff_model.specs.Image.{held_page};
+ghost use Rattle.ff_model.specs.Legal.{opening_of};
+ghost use Rattle.ff_mount.specs.Over.{IsCacheOver};
+ghost use Rattle.ff_table.specs.Table.{with_born};
+ghost use Rattle.ff_core.specs.Resume.{CanResume, pages_held, resumed_core, resumed_device, resumed_table};
+ghost use Rattle.ff_core.specs.Tally.{no_tally};
+
+use crate::core_state::Room;
+use crate::hierarchy::Hierarchy;
+use crate::log::Log;
+use crate::state::State;
+use crate::tally::Tally;
+use ff_base::{Geometry, Marks, NoMemory, PageBuf, PageNo};
+use ff_cache::Cache;
+use ff_device::Device;
+use ff_evict::{Evictor, Pick, Picker};
+use ff_flash::Flash;
+use ff_frames::Frames;
+use ff_memory::Memory;
+use ff_model::{History, Image};
+use ff_mount::Mounted;
+use ff_plb::Plb;
+use ff_policy::{Policy, Tune, Tuner};
+use ff_store::PageStore;
+use ff_table::Table;
+use ff_window::Window;
+use std::alloc::Global;
+
+/// What a core that could not be resumed hands back, for want of memory.
+#[derive(Drop)]
+pub struct ResumeBack<F: Flash, T: Tune, E: Pick> {
+    pub mounted: Mounted<F>,
+    pub tuner: Tuner<T>,
+    pub picker: Picker<E>,
+}
+
+// What a session needs memory for, beside its policy and its page table.
+#[derive(Drop)]
+struct Supplies {
+    base: Image,
+    history: History,
+    log: Log,
+    frames: Frames,
+    plb: Plb,
+    window: Window,
+    page: PageBuf,
+}
+
+fn supply(
+    alloc: Global,
+    base: &Image,
+    geometry: &Geometry,
+    room: Room,
+) -> Result<Supplies, NoMemory>
+    requires { IsWithinLimits geometry.now }
+    ensures base { IfOk result (λ supplies. supplies.base ≡ base.now) }
+    ensures history { IfOk result (λ supplies.
+        supplies.history ≡ record { entries = []; room = room.calls }) }
+    ensures log { IfOk result (λ supplies.
+        supplies.log ≡ record { turns = []; room = room.turns }) }
+    ensures frames { IfOk result (λ supplies.
+        supplies.frames ≡ replicate geometry.now.frames free_frame) }
+    ensures plb { IfOk result (λ supplies. supplies.plb ≡ replicate geometry.now.plb None) }
+    ensures window { IfOk result (λ supplies.
+        supplies.window ≡ record { posts = []; room = geometry.now.window }) }
+{
+    Ok(Supplies {
+        base: base.copy(alloc)?,
+        history: History::new(alloc, room.calls)?,
+        log: Log::new(alloc, room.turns)?,
+        frames: Frames::new(alloc, geometry.frames)?,
+        plb: Plb::new(alloc, geometry.plb)?,
+        window: Window::new(alloc, geometry.window)?,
+        page: PageBuf::new(alloc)?,
+    })
+}
+
+fn holds(base: &Image, page: PageNo) -> bool
+    ensures { result ≡ is_some (held_page base.now page.0) }
+{
+    base.page(page).is_some()
+}
+
+fn bear_where(table: &mut Table, page: PageNo, held: bool)
+    requires { page.0 < length table.old.homes }
+    ensures { table.new ≡ (if held then with_born page.0 table.old else table.old) }
+{
+    if held {
+        table.bear(page);
+    }
+}
+
+// The pages that an image holds are born.
+fn bear_held(table: &mut Table, base: &Image, pages: u32)
+    requires homes { length table.old.homes ≡ pages }
+    requires unborn { table.old.born ≡ replicate pages false }
+    requires size { length base.now.pages ≡ pages }
+    ensures { table.new ≡ record table.old { born = pages_held base.now } }
+{
+    for page in 0..pages {
+        let page = PageNo(page);
+        bear_where(table, page, holds(base, page));
+    }
+}
+
+// A page table in which the pages that an image holds are born. The error is want of memory, and hands the marks back.
+fn make_table(alloc: Global, marks: Marks, base: &Image, pages: u32) -> Result<Table, Marks>
+    requires marks { length marks ≡ pages }
+    requires size { length base.now.pages ≡ pages }
+    ensures ok { IfOk result (λ table. table ≡ resumed_table pages marks (pages_held base.now)) }
+    ensures err { IfErr result (λ back. back ≡ marks) }
+{
+    match Table::new(alloc, pages, marks) {
+        Ok(mut table) => {
+            bear_held(&mut table, base, pages);
+            Ok(table)
+        }
+        Err(marks) => Err(marks),
+    }
+}
+
+// A memory in which nothing is in flight.
+fn make_memory(frames: Frames, table: Table, plb: Plb, geometry: &Geometry) -> Memory
+    requires { IsWithinLimits geometry.now }
+    ensures { result ≡ record {
+      frames = frames;
+      table = table;
+      slots = plb;
+      capacity = capacity_of geometry.now;
+    } }
+{
+    Memory::new(frames, table, plb, geometry.capacity())
+}
+
+// A device over a store and a cache, for which no post waits.
+fn make_device<F: Flash>(
+    store: PageStore<F>,
+    cache: Cache,
+    window: Window,
+    page: PageBuf,
+    geometry: &Geometry,
+) -> Device<F>
+    requires limits { IsWithinLimits geometry.now }
+    requires over { IsCacheOver geometry.now store cache }
+    requires none { store.waits ≡ None }
+    requires window { window ≡ record { posts = []; room = geometry.now.window } }
+    ensures { result ≡ resumed_device store cache geometry.now }
+{
+    store.known();
+    Device::over(store, cache, window, page)
+}
+
+// What a session is made of.
+#[derive(Drop)]
+struct Made<F: Flash> {
+    base: Image,
+    history: History,
+    log: Log,
+    memory: Memory,
+    device: Device<F>,
+}
+
+// The parts of a session that begins at an event number.
+fn assemble<F: Flash, T: Tune, E: Pick>(
+    made: Made<F>,
+    policy: Policy<T>,
+    picker: Picker<E>,
+    geometry: Geometry,
+    from_event: u64,
+) -> State<F, T, E>
+    ensures { result ≡ record {
+      opening = opening_of made.base geometry from_event made.device.store.world.flash.faults;
+      geometry = geometry;
+      from_counts = made.device.store.world.counts;
+      history = made.history;
+      events = from_event;
+      log = made.log;
+      tally = no_tally;
+      hierarchy = record {
+        memory = made.memory;
+        device = made.device;
+        policy = policy;
+        evictor = record { hand = 0; picker = picker };
+      };
+    } }
+{
+    let from_faults = made.device.store().flash().fault_count();
+    let from_counts = made.device.store().counts();
+    State {
+        base: made.base,
+        geometry,
+        from_event,
+        from_faults,
+        from_counts,
+        history: made.history,
+        events: from_event,
+        log: made.log,
+        tally: Tally::default(),
+        hierarchy: Hierarchy {
+            memory: made.memory,
+            device: made.device,
+            policy,
+            evictor: Evictor::new(picker),
+        },
+    }
+}
+
+// The base, the books, the memory and the device of a session. The error is want of memory, and hands the parts back.
+fn make<F: Flash>(
+    alloc: Global,
+    mounted: Mounted<F>,
+    supplies: Supplies,
+    geometry: &Geometry,
+) -> Result<Made<F>, Mounted<F>>
+    requires limits { IsWithinLimits geometry.now }
+    requires over { IsCacheOver geometry.now mounted.store mounted.cache }
+    requires none { mounted.store.waits ≡ None }
+    requires marks { length mounted.marks ≡ geometry.now.pages }
+    requires size { length supplies.base.pages ≡ geometry.now.pages }
+    requires window { supplies.window ≡ record { posts = []; room = geometry.now.window } }
+    ensures ok { IfOk result (λ made. made ≡ record {
+      base = supplies.base;
+      history = supplies.history;
+      log = supplies.log;
+      memory = record {
+        frames = supplies.frames;
+        table = resumed_table geometry.now.pages mounted.marks (pages_held supplies.base);
+        slots = supplies.plb;
+        capacity = capacity_of geometry.now;
+      };
+      device = resumed_device mounted.store mounted.cache geometry.now;
+    }) }
+    ensures err { IfErr result (λ back. back ≡ mounted) }
+{
+    let Mounted {
+        store,
+        cache,
+        marks,
+    } = mounted;
+    match make_table(alloc, marks, &supplies.base, geometry.pages) {
+        Ok(table) => Ok(Made {
+            base: supplies.base,
+            history: supplies.history,
+            log: supplies.log,
+            memory: make_memory(supplies.frames, table, supplies.plb, geometry),
+            device: make_device(store, cache, supplies.window, supplies.page, geometry),
+        }),
+        Err(marks) => Err(Mounted {
+            store,
+            cache,
+            marks,
+        }),
+    }
+}
+
+// The parts of a session over a mounted store and cache.
+pub fn resumed_state<F: Flash, T: Tune, E: Pick>(
+    alloc: Global,
+    mounted: Mounted<F>,
+    base: &Image,
+    geometry: Geometry,
+    tuner: Tuner<T>,
+    picker: Picker<E>,
+    room: Room,
+    from_event: u64,
+) -> Result<State<F, T, E>, ResumeBack<F, T, E>>
+    requires limits { IsWithinLimits geometry }
+    requires parts { CanResume geometry mounted.store mounted.cache mounted.marks from_event }
+    requires size { length base.now.pages ≡ geometry.pages }
+    ensures { MatchResult result
+        (λ state. state ≡ resumed_core mounted.store mounted.cache mounted.marks base.now
+        geometry tuner picker room from_event)
+        (λ back. back ≡ record { mounted = mounted; tuner = tuner; picker = picker }) }
+{
+    let Ok(supplies) = supply(alloc, base, &geometry, room) else {
+        return Err(ResumeBack {
+            mounted,
+            tuner,
+            picker,
+        });
+    };
+    match Policy::new(alloc, geometry.pages, tuner) {
+        Ok(policy) => resumed_over(
+            alloc, mounted, geometry, supplies, policy, picker, from_event,
+        ),
+        Err(tuner) => Err(ResumeBack {
+            mounted,
+            tuner,
+            picker,
+        }),
+    }
+}
+
+fn resumed_over<F: Flash, T: Tune, E: Pick>(
+    alloc: Global,
+    mounted: Mounted<F>,
+    geometry: Geometry,
+    supplies: Supplies,
+    policy: Policy<T>,
+    picker: Picker<E>,
+    from_event: u64,
+) -> Result<State<F, T, E>, ResumeBack<F, T, E>>
+    requires limits { IsWithinLimits geometry }
+    requires over { IsCacheOver geometry mounted.store mounted.cache }
+    requires none { mounted.store.waits ≡ None }
+    requires marks { length mounted.marks ≡ geometry.pages }
+    requires size { length supplies.base.pages ≡ geometry.pages }
+    requires window { supplies.window ≡ record { posts = []; room = geometry.window } }
+    ensures ok { IfOk result (λ state. state ≡ record {
+      opening = opening_of supplies.base geometry from_event mounted.store.world.flash.faults;
+      geometry = geometry;
+      from_counts = mounted.store.world.counts;
+      history = supplies.history;
+      events = from_event;
+      log = supplies.log;
+      tally = no_tally;
+      hierarchy = record {
+        memory = record {
+          frames = supplies.frames;
+          table = resumed_table geometry.pages mounted.marks (pages_held supplies.base);
+          slots = supplies.plb;
+          capacity = capacity_of geometry;
+        };
+        device = resumed_device mounted.store mounted.cache geometry;
+        policy = policy;
+        evictor = record { hand = 0; picker = picker };
+      };
+    }) }
+    ensures err { IfErr result (λ back. back
+        ≡ record { mounted = mounted; tuner = policy.tuner; picker = picker }) }
+{
+    match make(alloc, mounted, supplies, &geometry) {
+        Ok(made) => Ok(assemble(made, policy, picker, geometry, from_event)),
+        Err(mounted) => Err(ResumeBack {
+            mounted,
+            tuner: policy.into_tuner(),
+            picker,
+        }),
+    }
+}
