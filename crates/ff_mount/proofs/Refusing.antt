@@ -21,10 +21,10 @@ use Rattle.ff_mount.specs.Sound.{AreSound}
 use Rattle.ff_mount.specs.Stops.{StopsBy, refused_stop}
 use Rattle.ff_mount.specs.declared.stop.MountStop.{MountStop}
 use Rattle.ff_mount.specs.declared.stop.MountStop.TheVariants.{NoMemory, Fault, Off}
-use Rattle.ff_scan.specs.Probing.{IsStopped}
+use Rattle.ff_scan.specs.Probing.{IsProbeStopped}
 use Rattle.ff_store.specs.Best.{sealed_count}
 use Rattle.ff_store.specs.PageStore.{IsStoreSound, PageStoreView}
-use Rattle.ff_store.specs.Remounted.{IsHandedBack, IsRemountable, IsRemounted, probed_flash, StopsBy as StoreStopsBy}
+use Rattle.ff_store.specs.Remounted.{IsHandedBack, IsRemountable, IsRemounted, probed_flash, IsPlannedStop}
 use Rattle.ff_store.specs.declared.remount.StoreStop.{StoreStop}
 use Rattle.ff_store.specs.declared.remount.StoreStop.TheVariants.{NoMemory as StoreNoMemory, Failed as StoreFailed, Off as StoreOff}
 
@@ -39,7 +39,7 @@ stopped_none flash on = record {
   off = (λ same. absurd (cc), λ down. absurd (cc));
 }
 
-stopped_failed : (old new : FlashState) → IsStopped old FlashFailed new → HasStopped old Fault new
+stopped_failed : (old new : FlashState) → IsProbeStopped old FlashFailed new → HasStopped old Fault new
 stopped_failed old new is = record {
   same = is.same;
   cells = is.cells;
@@ -49,7 +49,7 @@ stopped_failed old new is = record {
   off = (λ same. absurd (cc), λ down. (let both : FlashFailed ≡ FlashOff = is.off.1 down in absurd (cc)));
 }
 
-stopped_off : (old new : FlashState) → IsStopped old FlashOff new → HasStopped old Off new
+stopped_off : (old new : FlashState) → IsProbeStopped old FlashOff new → HasStopped old Off new
 stopped_off old new is = record {
   same = is.same;
   cells = is.cells;
@@ -67,7 +67,7 @@ handed_back old new StoreNoMemory is =
 handed_back old new StoreFailed is = stopped_failed (powered_up old) new is
 handed_back old new StoreOff is = stopped_off (powered_up old) new is
 
-pub stops_same : (plan : Planned) (made count : ℕ) (stop : StoreStop) → StoreStopsBy plan made count stop
+pub stops_same : (plan : Planned) (made count : ℕ) (stop : StoreStop) → IsPlannedStop plan made count stop
     → StopsBy plan made count (refused_stop stop)
 stops_same plan made count StoreNoMemory is = tt
 stops_same plan made count StoreFailed is = is
