@@ -3,7 +3,6 @@ ghost use Rattle.std.specs.Prelude.{IfOk};
 ghost use Rattle.ff_base.specs.Geometry.{IsWithinLimits};
 ghost use Rattle.ff_flash.specs.Plans.{IsPlan, planned_of};
 
-mod resumed;
 mod rows;
 mod rules;
 

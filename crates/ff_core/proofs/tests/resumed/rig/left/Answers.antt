@@ -1,5 +1,0 @@
-use Rattle.ff_store.proofs.Remounting.{remountable}
-use Rattle.ff_core.proofs.tests.resumed.rig.left.Goals as goal
-
-pub returns : goal.returns
-returns c = rw c.into_flash.ensures (remountable c.args.geometry.now c.args.store c.known.ensures.store c.requires)
