@@ -6,7 +6,7 @@ ghost use Rattle.ff_core.specs.Hierarchy.{flash_under};
 ghost use Rattle.ff_core.specs.Uncut.{StaysOn};
 ghost use Rattle.ff_input.specs.Asking.{AreRun, is_run};
 ghost use Rattle.flatflash.specs.Items.{call, row_items, rows_items, turn};
-ghost use Rattle.flatflash.specs.Making.{HasRoom, IsMade, IsOpen, IsPowered, Went};
+ghost use Rattle.flatflash.specs.Making.{HasRoomFor, IsMade, IsOpen, IsPowered, HasDone};
 
 use ff_base::Caller;
 use ff_core::{Back, Core};
@@ -23,11 +23,18 @@ pub fn make_rows<F: Flash, T: Tune, E: Pick>(core: &mut Core<F, T, E>, rows: &[R
     requires powered { IsPowered core.old }
     requires calls { core.old.history.entries ≡ [] }
     requires turns { core.old.log.turns ≡ [] }
-    requires room { HasRoom core.old (rows_items rows.now) }
+    requires room { HasRoomFor core.old (rows_items rows.now) }
     ensures { IsMade core.old core.new (rows_items rows.now) }
 {
-    let mut numbers = [0; CALLERS as usize];
+    let mut numbers = first_numbers();
     make_each(core, &mut numbers, rows);
+}
+
+// The number of each caller's first call.
+fn first_numbers() -> [u32; CALLERS as usize]
+    ensures { result ≡ replicate 64 0 }
+{
+    [0; CALLERS as usize]
 }
 
 // The same, over the numbers of the callers' next calls.
@@ -39,8 +46,8 @@ fn make_each<F: Flash, T: Tune, E: Pick>(
 )
     requires run { AreRun rows.now }
     requires opened { IsOpen core.old numbers.old }
-    requires room { HasRoom core.old (rows_items rows.now) }
-    ensures { Went core.old core.new numbers.new (rows_items rows.now) }
+    requires room { HasRoomFor core.old (rows_items rows.now) }
+    ensures { HasDone core.old core.new numbers.new (rows_items rows.now) }
 {
     for row in rows {
         make_row(core, numbers, row);
@@ -50,8 +57,8 @@ fn make_each<F: Flash, T: Tune, E: Pick>(
 fn make_row<F: Flash, T: Tune, E: Pick>(core: &mut Core<F, T, E>, numbers: &mut [u32], row: &Row)
     requires run { is_run row.now ≡ true }
     requires opened { IsOpen core.old numbers.old }
-    requires room { HasRoom core.old (row_items row.now) }
-    ensures { Went core.old core.new numbers.new (row_items row.now) }
+    requires room { HasRoomFor core.old (row_items row.now) }
+    ensures { HasDone core.old core.new numbers.new (row_items row.now) }
 {
     match row {
         Row::Call { caller, op } => make_call(core, numbers, *caller, op),
@@ -70,7 +77,7 @@ fn make_call<F: Flash, T: Tune, E: Pick>(
     requires caller { caller.0 < 64 }
     requires opened { IsOpen core.old numbers.old }
     requires room { 0 < spare_calls core.old }
-    ensures { Went core.old core.new numbers.new (call caller op.now ∷ []) }
+    ensures { HasDone core.old core.new numbers.new (call caller op.now ∷ []) }
 {
     core.known();
     let number = &mut numbers[caller.0 as usize];
@@ -87,8 +94,8 @@ fn make_turns<F: Flash, T: Tune, E: Pick>(
     count: u32,
 )
     requires opened { IsOpen core.old numbers.now }
-    requires room { HasRoom core.old (replicate count (turn kind)) }
-    ensures { Went core.old core.new numbers.now (replicate count (turn kind)) }
+    requires room { HasRoomFor core.old (replicate count (turn kind)) }
+    ensures { HasDone core.old core.new numbers.now (replicate count (turn kind)) }
 {
     for _ in 0..count {
         make_turn(core, numbers, kind);
@@ -99,7 +106,7 @@ fn make_turns<F: Flash, T: Tune, E: Pick>(
 fn make_turn<F: Flash, T: Tune, E: Pick>(core: &mut Core<F, T, E>, numbers: &[u32], kind: Kind)
     requires opened { IsOpen core.old numbers.now }
     requires room { 0 < spare_turns core.old }
-    ensures { Went core.old core.new numbers.now (turn kind ∷ []) }
+    ensures { HasDone core.old core.new numbers.now (turn kind ∷ []) }
 {
     let _ = back(core, kind);
 }
