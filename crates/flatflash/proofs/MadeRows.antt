@@ -19,9 +19,6 @@ pub opened_none : {T E : Type 0} (core : CoreView T E) (numbers : List ℕ) → 
 opened_none core numbers powered none is =
     record { powered = powered; numbered = λ caller. rw none refl; next = rw none (next_none numbers is) }
 
-pub made_of : {T E : Type 0} (a b : CoreView T E) (numbers : List ℕ) (items : List Item) → HasDone a b numbers items → IsMade a b items
-made_of a b numbers items went = record { on = went.on; numbered = went.opened.numbered }
-
 -- one of the rows is run
 pub run_at : (rows : List Row) (i : ℕ) (row : Row) → AreRun rows → i < length rows → row ≡ get_or rows i row
     → is_run row ≡ true
@@ -60,6 +57,8 @@ room_row a b m rows i row within is room went =
     (subst (λ (items : List Item). HasRoomFor a items) (items_around rows i row within is) room) went)
 
 -- all rows were made
-pub rows_all : {T E : Type 0} (a b : CoreView T E) (m : List ℕ) (rows : List Row) (i : ℕ) → length rows ≤ i
-    → HasDone a b m (rows_items (take i rows)) → HasDone a b m (rows_items rows)
-rows_all a b m rows i past went = subst (λ (rs : List Row). HasDone a b m (rows_items rs)) (take_all i rows past) went
+pub rows_made : {T E : Type 0} (a b : CoreView T E) (m : List ℕ) (rows : List Row) (i : ℕ) → length rows ≤ i
+    → HasDone a b m (rows_items (take i rows)) → IsMade a b (rows_items rows)
+rows_made a b m rows i past went =
+    let all = subst (λ (rs : List Row). HasDone a b m (rows_items rs)) (take_all i rows past) went in
+    record { on = all.on; numbered = all.opened.numbered }

@@ -17,7 +17,6 @@ use ff_policy::Tune;
 use ff_trace::{CALLERS, Row};
 
 /// Makes the calls and turns of the rows in their order. Each caller's calls are numbered from 0.
-#[tactic(auto, using(crate::proofs::MadeRows::opened_none, crate::proofs::MadeRows::made_of))]
 pub fn make_rows<F: Flash, T: Tune, E: Pick>(core: &mut Core<F, T, E>, rows: &[Row])
     requires run { AreRun rows.now }
     requires powered { IsPowered core.old }
@@ -26,28 +25,23 @@ pub fn make_rows<F: Flash, T: Tune, E: Pick>(core: &mut Core<F, T, E>, rows: &[R
     requires room { HasRoomFor core.old (rows_items rows.now) }
     ensures { IsMade core.old core.new (rows_items rows.now) }
 {
-    let mut numbers = first_numbers();
+    let mut numbers = [0; CALLERS as usize];
     make_each(core, &mut numbers, rows);
 }
 
-// The number of each caller's first call.
-fn first_numbers() -> [u32; CALLERS as usize]
-    ensures { result ≡ replicate 64 0 }
-{
-    [0; CALLERS as usize]
-}
-
 // The same, over the numbers of the callers' next calls.
-#[tactic(auto, using(crate::proofs::Making::went_none, crate::proofs::MadeRows::rows_all, crate::proofs::MadeRows::rows_more, crate::proofs::MadeRows::room_row, crate::proofs::MadeRows::run_at))]
+#[tactic(auto, using(crate::proofs::Making::went_none, crate::proofs::MadeRows::opened_none, crate::proofs::MadeRows::rows_made, crate::proofs::MadeRows::rows_more, crate::proofs::MadeRows::room_row, crate::proofs::MadeRows::run_at))]
 fn make_each<F: Flash, T: Tune, E: Pick>(
     core: &mut Core<F, T, E>,
     numbers: &mut [u32],
     rows: &[Row],
 )
     requires run { AreRun rows.now }
-    requires opened { IsOpen core.old numbers.old }
+    requires powered { IsPowered core.old }
+    requires calls { core.old.history.entries ≡ [] }
+    requires numbers { numbers.old ≡ replicate 64 0 }
     requires room { HasRoomFor core.old (rows_items rows.now) }
-    ensures { HasDone core.old core.new numbers.new (rows_items rows.now) }
+    ensures { IsMade core.old core.new (rows_items rows.now) }
 {
     for row in rows {
         make_row(core, numbers, row);
