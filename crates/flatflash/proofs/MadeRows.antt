@@ -9,7 +9,7 @@ use Rattle.ff_core.specs.Core.{CoreView}
 use Rattle.ff_input.specs.Asking.{AreRun, is_run}
 use Rattle.ff_trace.specs.declared.row.Row.{Row}
 use Rattle.flatflash.specs.Items.{Item, row_items, rows_items}
-use Rattle.flatflash.specs.Making.{HasRoom, IsMade, IsOpen, IsPowered, Went}
+use Rattle.flatflash.specs.Making.{HasRoomFor, IsMade, IsOpen, IsPowered, HasDone}
 use Rattle.flatflash.proofs.Making.{room_front, room_left, went_then}
 use Rattle.flatflash.proofs.Numbers.{next_none}
 
@@ -18,9 +18,6 @@ pub opened_none : {T E : Type 0} (core : CoreView T E) (numbers : List ℕ) → 
     → numbers ≡ replicate 64 0 → IsOpen core numbers
 opened_none core numbers powered none is =
     record { powered = powered; numbered = λ caller. rw none refl; next = rw none (next_none numbers is) }
-
-pub made_of : {T E : Type 0} (a b : CoreView T E) (numbers : List ℕ) (items : List Item) → Went a b numbers items → IsMade a b items
-made_of a b numbers items went = record { on = went.on; numbered = went.opened.numbered }
 
 -- one of the rows is run
 pub run_at : (rows : List Row) (i : ℕ) (row : Row) → AreRun rows → i < length rows → row ≡ get_or rows i row
@@ -46,20 +43,22 @@ items_around rows i row within is =
 
 -- one row more was made
 pub rows_more : {T E : Type 0} (a b c : CoreView T E) (m n : List ℕ) (rows : List Row) (i : ℕ) (row : Row) → i < length rows
-    → row ≡ get_or rows i row → Went a b m (rows_items (take i rows)) → Went b c n (row_items row)
-    → Went a c n (rows_items (take (i + 1) rows))
+    → row ≡ get_or rows i row → HasDone a b m (rows_items (take i rows)) → HasDone b c n (row_items row)
+    → HasDone a c n (rows_items (take (i + 1) rows))
 rows_more a b c m n rows i row within is first second =
     rw (items_more rows i row within is) (went_then a b c m n (rows_items (take i rows)) (row_items row) first second)
 
 -- there is room for a row
 pub room_row : {T E : Type 0} (a b : CoreView T E) (m : List ℕ) (rows : List Row) (i : ℕ) (row : Row) → i < length rows
-    → row ≡ get_or rows i row → HasRoom a (rows_items rows) → Went a b m (rows_items (take i rows)) → HasRoom b (row_items row)
+    → row ≡ get_or rows i row → HasRoomFor a (rows_items rows) → HasDone a b m (rows_items (take i rows)) → HasRoomFor b (row_items row)
 room_row a b m rows i row within is room went =
     room_front b (row_items row) (rows_items (drop (i + 1) rows))
     (room_left a b m (rows_items (take i rows)) (row_items row ++ rows_items (drop (i + 1) rows))
-    (subst (λ (items : List Item). HasRoom a items) (items_around rows i row within is) room) went)
+    (subst (λ (items : List Item). HasRoomFor a items) (items_around rows i row within is) room) went)
 
 -- all rows were made
-pub rows_all : {T E : Type 0} (a b : CoreView T E) (m : List ℕ) (rows : List Row) (i : ℕ) → length rows ≤ i
-    → Went a b m (rows_items (take i rows)) → Went a b m (rows_items rows)
-rows_all a b m rows i past went = subst (λ (rs : List Row). Went a b m (rows_items rs)) (take_all rows i past) went
+pub rows_made : {T E : Type 0} (a b : CoreView T E) (m : List ℕ) (rows : List Row) (i : ℕ) → length rows ≤ i
+    → HasDone a b m (rows_items (take i rows)) → IsMade a b (rows_items rows)
+rows_made a b m rows i past went =
+    let all = subst (λ (rs : List Row). HasDone a b m (rows_items rs)) (take_all i rows past) went in
+    record { on = all.on; numbered = all.opened.numbered }

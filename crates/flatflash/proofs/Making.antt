@@ -1,7 +1,7 @@
 -- What a call, a turn and several of them make of an open session.
 use Rattle.std.proofs.Common.{◌≡◌, ◌<◌, ◌≤◌, ◌+◌, ◌-◌, ℕ, suc, true, false, List, [], ◌∷◌, ◌++◌, length, get_or, set, refl, sym, ap, ◌∙◌, subst, arith, append_assoc, length-append}
 use Rattle.std.specs.Prelude.{count_by, replicate}
-use Rattle.std.proofs.lemmas.List.{append-nil}
+use Rattle.std.proofs.lemmas.List.{append-nil, replicate-append-replicate}
 use Rattle.ff_base.specs.declared.numbers.Caller.{Caller}
 use Rattle.ff_core.specs.BackEvents.{IsBackEvent, IsLogged, cut as cut_turn, made}
 use Rattle.ff_core.specs.Backs.{turned_now, with_logged}
@@ -21,7 +21,7 @@ use Rattle.ff_model.specs.declared.counts.Kind.{Kind}
 use Rattle.ff_model.specs.declared.history.Entry.{Entry}
 use Rattle.ff_model.specs.declared.op.Op.{Op}
 use Rattle.flatflash.specs.Items.{IsWork, Item, call, is_call, is_turn, turn}
-use Rattle.flatflash.specs.Making.{AreNext, HasRoom, IsOpen, IsPowered, Went, WentOn}
+use Rattle.flatflash.specs.Making.{AreNext, HasRoomFor, IsOpen, IsPowered, HasDone, DidItems}
 use Rattle.flatflash.proofs.Numbers.{next_more, numbered_more}
 use Rattle.flatflash.proofs.Work.{count_append, turns_counted, work_append}
 
@@ -38,7 +38,7 @@ session_same core = record {
 }
 
 -- nothing was done
-pub went_none : {T E : Type 0} (core : CoreView T E) (numbers : List ℕ) → IsOpen core numbers → Went core core numbers []
+pub went_none : {T E : Type 0} (core : CoreView T E) (numbers : List ℕ) → IsOpen core numbers → HasDone core core numbers []
 went_none core numbers opened = record {
   opened = opened;
   on = record {
@@ -50,8 +50,8 @@ went_none core numbers opened = record {
 }
 
 -- some items were done, and then others
-pub went_then : {T E : Type 0} (a b c : CoreView T E) (m n : List ℕ) (xs ys : List Item) → Went a b m xs → Went b c n ys
-    → Went a c n (xs ++ ys)
+pub went_then : {T E : Type 0} (a b c : CoreView T E) (m n : List ℕ) (xs ys : List Item) → HasDone a b m xs → HasDone b c n ys
+    → HasDone a c n (xs ++ ys)
 went_then a b c m n xs ys first second =
     let calls = count_append is_call xs ys in
     let turns = count_append is_turn xs ys in
@@ -101,7 +101,7 @@ entry_of old caller number op driven new on (served reply event faults is histor
 entry_of old caller number op driven new on (cut is same off) = absurd (let both : true ≡ false = sym on ∙ off in cc)
 
 called_on : {T E : Type 0} (old : CoreView T E) (caller : Caller) (number : ℕ) (op : Op) (new : CoreView T E) → 0 < spare_calls old
-    → SameSession old new → new.log ≡ old.log → HasEntry old caller number op new → WentOn old new (call caller op ∷ [])
+    → SameSession old new → new.log ≡ old.log → HasEntry old caller number op new → DidItems old new (call caller op ∷ [])
 called_on old caller number op new spare same log has =
     let entries : new.history.entries ≡ old.history.entries ++ has.entry ∷ [] = ap (λ (h : Entries). h.entries) has.history in
     let turns : new.log.turns ≡ old.log.turns = ap (λ (l : LogView). l.turns) log in
@@ -116,7 +116,7 @@ called_on old caller number op new spare same log has =
           (subst (λ (ts : List Turned). IsWork 0 (old.history.entries ++ has.entry ∷ []) ts (before ++ call caller op ∷ []))
           (append-nil old.log.turns)
           (work_append 0 old.history.entries old.log.turns before (has.entry ∷ []) [] (call caller op ∷ []) work
-          (has.by, has.op_is, refl, refl)));
+          (has.by, has.op_is, (refl, refl))));
       calls = omega arith;
       turns = omega arith;
     }
@@ -125,7 +125,7 @@ called_on old caller number op new spare same log has =
 pub went_call : {T E : Type 0} (old : CoreView T E) (numbers : List ℕ) (caller : Caller) (number : ℕ) (op : Op) (driven : Driven)
     (new : CoreView T E) → IsOpen old numbers → caller.0 < 64 → number ≡ get_or numbers caller.0 0 → 0 < spare_calls old
     → IsDriven old caller number op driven new → StaysOn (flash_under old.hierarchy) (flash_under new.hierarchy)
-    → Went old new (set numbers caller.0 (get_or numbers caller.0 0 + 1)) (call caller op ∷ [])
+    → HasDone old new (set numbers caller.0 (get_or numbers caller.0 0 + 1)) (call caller op ∷ [])
 went_call old numbers caller number op driven new opened place is spare drives stays =
     let powered = powered_on old new opened.powered drives.same stays in
     let has = entry_of old caller number op driven new powered.on drives.answer in
@@ -138,7 +138,9 @@ went_call old numbers caller number op driven new opened place is spare drives s
       opened = record {
         powered = powered;
         numbered = λ k. rw entries (numbered_more old.history.entries has.entry numbers opened.numbered opened.next within due k);
-        next = rw (entries, ← by) (next_more old.history.entries has.entry numbers opened.next within);
+        next = subst (λ (es : List Entry). AreNext (set numbers caller.0 (get_or numbers caller.0 0 + 1)) es) (sym entries)
+            (subst (λ (k : ℕ). AreNext (set numbers k (get_or numbers k 0 + 1)) (old.history.entries ++ has.entry ∷ [])) by
+            (next_more old.history.entries has.entry numbers opened.next within));
       };
       on = called_on old caller number op new spare drives.same drives.log has;
     }
@@ -152,7 +154,7 @@ logged_on old kind back new on (cut_turn is same off) = absurd (let both : true 
 -- a turn was made
 pub went_turn : {T E : Type 0} (old : CoreView T E) (numbers : List ℕ) (kind : Kind) (back : Back) (new : CoreView T E)
     → IsOpen old numbers → 0 < spare_turns old → IsBackEvent old kind back new
-    → StaysOn (flash_under old.hierarchy) (flash_under new.hierarchy) → Went old new numbers (turn kind ∷ [])
+    → StaysOn (flash_under old.hierarchy) (flash_under new.hierarchy) → HasDone old new numbers (turn kind ∷ [])
 went_turn old numbers kind back new opened spare event stays =
     let powered = powered_on old new opened.powered event.same stays in
     let log = logged_on old kind back new powered.on event.logged in
@@ -176,7 +178,7 @@ went_turn old numbers kind back new opened spare event stays =
             (subst (λ (es : List Entry). IsWork 0 es (old.log.turns ++ turned ∷ []) (before ++ turn kind ∷ []))
             (append-nil old.history.entries)
             (work_append 0 old.history.entries old.log.turns before [] (turned ∷ []) (turn kind ∷ []) work
-            (refl, omega arith, refl, refl)));
+            (refl, omega arith, (refl, refl))));
         calls = omega arith;
         turns = omega arith;
       };
@@ -184,25 +186,25 @@ went_turn old numbers kind back new opened spare event stays =
 
 -- one more turn of a row
 pub went_turns : {T E : Type 0} (a b c : CoreView T E) (numbers : List ℕ) (kind : Kind) (count : ℕ)
-    → Went a b numbers (replicate count (turn kind)) → Went b c numbers (turn kind ∷ [])
-    → Went a c numbers (replicate (count + 1) (turn kind))
+    → HasDone a b numbers (replicate count (turn kind)) → HasDone b c numbers (turn kind ∷ [])
+    → HasDone a c numbers (replicate (count + 1) (turn kind))
 went_turns a b c numbers kind count first second =
-    rw (replicate_more count (turn kind))
+    subst (λ (items : List Item). HasDone a c numbers items) (replicate-append-replicate count 1 (turn kind))
     (went_then a b c numbers numbers (replicate count (turn kind)) (turn kind ∷ []) first second)
 
 -- there is room for one turn more
-pub spare_turn : {T E : Type 0} (a b : CoreView T E) (numbers : List ℕ) (kind : Kind) (made count : ℕ) → made < count
-    → HasRoom a (replicate count (turn kind)) → Went a b numbers (replicate made (turn kind)) → 0 < spare_turns b
-spare_turn a b numbers kind made count more room went =
+pub spare_turn : {T E : Type 0} (a b : CoreView T E) (numbers : List ℕ) (kind : Kind) (so_far count : ℕ) → so_far < count
+    → HasRoomFor a (replicate count (turn kind)) → HasDone a b numbers (replicate so_far (turn kind)) → 0 < spare_turns b
+spare_turn a b numbers kind so_far count more room went =
     let asked = turns_counted count kind in
-    let done = turns_counted made kind in
+    let done = turns_counted so_far kind in
     let fits = room.turns in
     let left = went.on.turns in
     omega arith
 
 -- there is room for the items that are left
-pub room_left : {T E : Type 0} (a b : CoreView T E) (numbers : List ℕ) (xs ys : List Item) → HasRoom a (xs ++ ys)
-    → Went a b numbers xs → HasRoom b ys
+pub room_left : {T E : Type 0} (a b : CoreView T E) (numbers : List ℕ) (xs ys : List Item) → HasRoomFor a (xs ++ ys)
+    → HasDone a b numbers xs → HasRoomFor b ys
 room_left a b numbers xs ys room went =
     let calls = count_append is_call xs ys in
     let turns = count_append is_turn xs ys in
@@ -213,7 +215,7 @@ room_left a b numbers xs ys room went =
     record { calls = omega arith; turns = omega arith }
 
 -- and for the first of them
-pub room_front : {T E : Type 0} (core : CoreView T E) (xs ys : List Item) → HasRoom core (xs ++ ys) → HasRoom core xs
+pub room_front : {T E : Type 0} (core : CoreView T E) (xs ys : List Item) → HasRoomFor core (xs ++ ys) → HasRoomFor core xs
 room_front core xs ys room =
     let calls = count_append is_call xs ys in
     let turns = count_append is_turn xs ys in

@@ -1,6 +1,6 @@
 -- The session of a run's rows is good, and takes their items.
 use Rattle.std.proofs.Common.{◌≡◌, ℕ, List, [], ◌∷◌, ◌++◌, refl, sym, ap, ◌∙◌, subst}
-use Rattle.std.specs.Prelude.{Some}
+use Rattle.std.specs.Prelude.{Err, IfOk, Ok, Result, Some}
 use Rattle.ff_base.specs.declared.geometry.Geometry.{Geometry}
 use Rattle.ff_core.specs.Account.{IsAccountOf, Start, start_of}
 use Rattle.ff_core.specs.Core.{CoreView}
@@ -9,13 +9,14 @@ use Rattle.ff_core.specs.Hierarchy.{flash_under}
 use Rattle.ff_core.specs.declared.core_state.Room.{Room}
 use Rattle.ff_evict.specs.Picker.{PickerView}
 use Rattle.ff_flash.specs.FlashState.{FlashState}
-use Rattle.ff_flash.specs.Plans.{Planned, listed_count}
+use Rattle.ff_flash.specs.Plans.{Planned, listed_count, no_plan}
 use Rattle.ff_flash.specs.SimFlash.{told_plan}
-use Rattle.ff_gc.specs.Counts.{total_of}
+use Rattle.ff_gen.specs.Generated.{generated}
 use Rattle.ff_model.specs.Legal.{Opening}
 use Rattle.ff_policy.specs.Tuner.{TunerView}
 use Rattle.ff_trace.specs.declared.row.Row.{Row}
 use Rattle.flatflash.specs.Items.{over, rows_items}
+use Rattle.flatflash.specs.Loads.{load_geometry, load_setup}
 use Rattle.flatflash.specs.Making.{IsMade}
 use Rattle.flatflash.specs.Opening.{IsSessionOf, first_core}
 use Rattle.flatflash.specs.Sessions.{AreSessionsOf, first_start, setup_with}
@@ -53,3 +54,12 @@ sessions_of {T = T} {E = E} geometry plan tuner picker room new rows session is_
         planned = of.planned ∙ ap (λ (p : Planned). listed_count session.flash.operations p.fail) told;
       };
     }
+
+-- the same of the rows that a number makes, in the one session that is answered
+pub generated_sessions : {V E : Type 0} (items : V → List Session) (result : Result V E) (floor : ℕ) (plan : Planned) (rows : List Row)
+    (number : ℕ) (session : Session) → plan ≡ no_plan → rows ≡ generated number
+    → AreSessionsOf (setup_with load_geometry plan floor) rows (session ∷ []) → IfOk result (λ v. items v ≡ session ∷ [])
+    → IfOk result (λ v. AreSessionsOf (load_setup floor) (generated number) (items v))
+generated_sessions items (Ok v) floor plan rows number session none is are one =
+    rw one (rw (none, is) at are)
+generated_sessions items (Err why) floor plan rows number session none is are one = tt

@@ -1,5 +1,5 @@
 -- How a call of the program ends, by the words, the input and the faults, and what it tells.
-use Rattle.std.specs.Prelude.{ℕ, ◌+◌, ◌×◌, ◌≡◌, ◌≤◌, ◌⊎◌, ◌==◌, if◌then◌else◌, List, [], ◌∷◌, ◌++◌, codes, decimal, Option, Result, Ok, Err}
+use Rattle.std.specs.Prelude.{ℕ, ◌+◌, ◌≡◌, ◌≤◌, ◌⊎◌, ◌==◌, if◌then◌else◌, List, [], ◌∷◌, ◌++◌, codes, decimal, Option, Result, Ok, Err}
 use Rattle.std.specs.List.{flat_map}
 use Rattle.std.specs.Io.KnownBytes.{Appends}
 use Rattle.ff_base.specs.Count.{Rose}
@@ -83,24 +83,24 @@ sink_change written faults old new =
     }
 
 -- the text of a session
-abbrev pub session_text : ℕ → Session → List ℕ
-session_text at session =
+abbrev pub text_of_session : ℕ → Session → List ℕ
+text_of_session at session =
     run_text at session.account.entries (turn_counts session.account.turns) session.account.counts
 
 -- the texts of sessions, one after the other, the first of them with this number
 abbrev pub sessions_text : ℕ → List Session → List ℕ
 sessions_text at [] = []
-sessions_text at (session ∷ later) = session_text at session ++ sessions_text (at + 1) later
+sessions_text at (session ∷ later) = text_of_session at session ++ sessions_text (at + 1) later
 
 -- the summary of a session of a number's rows
-abbrev pub summary_text : ℕ → Session → List ℕ
-summary_text number session =
+abbrev pub summary_of_session : ℕ → Session → List ℕ
+summary_of_session number session =
     run_summary number session.account.entries (turn_counts session.account.turns)
     session.account.counts
 
 -- the summaries of such sessions
 abbrev pub summaries_text : ℕ → List Session → List ℕ
-summaries_text number sessions = flat_map (summary_text number) sessions
+summaries_text number sessions = flat_map (summary_of_session number) sessions
 
 -- the line of settings that are refused
 abbrev pub settings_text : BadSettings → List ℕ

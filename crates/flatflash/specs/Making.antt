@@ -26,12 +26,12 @@ pub record IsOpen {T E : Type 0} (core : CoreView T E) (numbers : List ℕ) : Ty
   pub next : AreNext numbers core.history.entries
 
 -- there is room for these items
-pub record HasRoom {T E : Type 0} (core : CoreView T E) (items : List Item) : Type 0 where
+pub record HasRoomFor {T E : Type 0} (core : CoreView T E) (items : List Item) : Type 0 where
   pub calls : count_by is_call items ≤ spare_calls core
   pub turns : count_by is_turn items ≤ spare_turns core
 
 -- these items were done behind those before
-pub record WentOn {T E : Type 0} (old new : CoreView T E) (items : List Item) : Type 0 where
+pub record DidItems {T E : Type 0} (old new : CoreView T E) (items : List Item) : Type 0 where
   pub same : SameSession old new
   pub work : (before : List Item) → IsWork 0 old.history.entries old.log.turns before
       → IsWork 0 new.history.entries new.log.turns (before ++ items)
@@ -39,12 +39,12 @@ pub record WentOn {T E : Type 0} (old new : CoreView T E) (items : List Item) : 
   pub turns : spare_turns old ≡ spare_turns new + count_by is_turn items
 
 -- these items were done, and the session is open
-pub record Went {T E : Type 0} (old new : CoreView T E) (numbers : List ℕ) (items : List Item)
+pub record HasDone {T E : Type 0} (old new : CoreView T E) (numbers : List ℕ) (items : List Item)
     : Type 0 where
   pub opened : IsOpen new numbers
-  pub on : WentOn old new items
+  pub on : DidItems old new items
 
 -- these items were done in a session that had none, and the calls of each caller are numbered from 0
 pub record IsMade {T E : Type 0} (old new : CoreView T E) (items : List Item) : Type 0 where
-  pub on : WentOn old new items
+  pub on : DidItems old new items
   pub numbered : (caller : ℕ) → AreNumbered caller new.history.entries

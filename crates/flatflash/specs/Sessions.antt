@@ -40,15 +40,15 @@ pub record IsGood (setup : Setup) (start : Start) (session : Session) : Type 0 w
   pub planned : session.flash.faults ≡ listed_count session.flash.operations setup.plan.fail
 
 -- the session takes these items, of which some are left: its calls and turns, and its end
-pub record Takes (session : Session) (items left : List Item) : Type 0 where
+pub record TakesItems (session : Session) (items left : List Item) : Type 0 where
   pub work : List Item
   pub taken : items ≡ work ++ (over ∷ left)
   pub is_work : IsWork 0 session.account.entries session.account.turns work
 
 -- the session is good, numbers each caller's calls from 0, and takes these items
-pub record IsNext (setup : Setup) (start : Start) (session : Session) (items left : List Item)
+pub record IsNextSession (setup : Setup) (start : Start) (session : Session) (items left : List Item)
     : Type 0 where
-  pub takes : Takes session items left
+  pub takes : TakesItems session items left
   pub numbered : (caller : ℕ) → AreNumbered caller session.account.entries
   pub good : IsGood setup start session
 
@@ -56,5 +56,5 @@ pub record IsNext (setup : Setup) (start : Start) (session : Session) (items lef
 abbrev pub AreSessionsOf : Setup → List Row → List Session → Type 0
 AreSessionsOf setup rows [] = ⊥
 AreSessionsOf setup rows (session ∷ []) =
-    IsNext setup (first_start setup) session (items_of rows) []
+    IsNextSession setup (first_start setup) session (items_of rows) []
 AreSessionsOf setup rows (session ∷ next ∷ later) = ⊥

@@ -6,7 +6,7 @@ ghost use Rattle.ff_core.specs.Hierarchy.{flash_under};
 ghost use Rattle.ff_core.specs.Uncut.{StaysOn};
 ghost use Rattle.ff_input.specs.Asking.{AreRun, is_run};
 ghost use Rattle.flatflash.specs.Items.{call, row_items, rows_items, turn};
-ghost use Rattle.flatflash.specs.Making.{HasRoom, IsMade, IsOpen, IsPowered, Went};
+ghost use Rattle.flatflash.specs.Making.{HasRoomFor, IsMade, IsOpen, IsPowered, HasDone};
 
 use ff_base::Caller;
 use ff_core::{Back, Core};
@@ -17,13 +17,12 @@ use ff_policy::Tune;
 use ff_trace::{CALLERS, Row};
 
 /// Makes the calls and turns of the rows in their order. Each caller's calls are numbered from 0.
-#[tactic(auto, using(crate::proofs::MadeRows::opened_none, crate::proofs::MadeRows::made_of))]
 pub fn make_rows<F: Flash, T: Tune, E: Pick>(core: &mut Core<F, T, E>, rows: &[Row])
     requires run { AreRun rows.now }
     requires powered { IsPowered core.old }
     requires calls { core.old.history.entries ≡ [] }
     requires turns { core.old.log.turns ≡ [] }
-    requires room { HasRoom core.old (rows_items rows.now) }
+    requires room { HasRoomFor core.old (rows_items rows.now) }
     ensures { IsMade core.old core.new (rows_items rows.now) }
 {
     let mut numbers = [0; CALLERS as usize];
@@ -31,16 +30,18 @@ pub fn make_rows<F: Flash, T: Tune, E: Pick>(core: &mut Core<F, T, E>, rows: &[R
 }
 
 // The same, over the numbers of the callers' next calls.
-#[tactic(auto, using(crate::proofs::Making::went_none, crate::proofs::MadeRows::rows_all, crate::proofs::MadeRows::rows_more, crate::proofs::MadeRows::room_row, crate::proofs::MadeRows::run_at))]
+#[tactic(auto, using(crate::proofs::Making::went_none, crate::proofs::MadeRows::opened_none, crate::proofs::MadeRows::rows_made, crate::proofs::MadeRows::rows_more, crate::proofs::MadeRows::room_row, crate::proofs::MadeRows::run_at))]
 fn make_each<F: Flash, T: Tune, E: Pick>(
     core: &mut Core<F, T, E>,
     numbers: &mut [u32],
     rows: &[Row],
 )
     requires run { AreRun rows.now }
-    requires opened { IsOpen core.old numbers.old }
-    requires room { HasRoom core.old (rows_items rows.now) }
-    ensures { Went core.old core.new numbers.new (rows_items rows.now) }
+    requires powered { IsPowered core.old }
+    requires calls { core.old.history.entries ≡ [] }
+    requires numbers { numbers.old ≡ replicate 64 0 }
+    requires room { HasRoomFor core.old (rows_items rows.now) }
+    ensures { IsMade core.old core.new (rows_items rows.now) }
 {
     for row in rows {
         make_row(core, numbers, row);
@@ -50,8 +51,8 @@ fn make_each<F: Flash, T: Tune, E: Pick>(
 fn make_row<F: Flash, T: Tune, E: Pick>(core: &mut Core<F, T, E>, numbers: &mut [u32], row: &Row)
     requires run { is_run row.now ≡ true }
     requires opened { IsOpen core.old numbers.old }
-    requires room { HasRoom core.old (row_items row.now) }
-    ensures { Went core.old core.new numbers.new (row_items row.now) }
+    requires room { HasRoomFor core.old (row_items row.now) }
+    ensures { HasDone core.old core.new numbers.new (row_items row.now) }
 {
     match row {
         Row::Call { caller, op } => make_call(core, numbers, *caller, op),
@@ -70,7 +71,7 @@ fn make_call<F: Flash, T: Tune, E: Pick>(
     requires caller { caller.0 < 64 }
     requires opened { IsOpen core.old numbers.old }
     requires room { 0 < spare_calls core.old }
-    ensures { Went core.old core.new numbers.new (call caller op.now ∷ []) }
+    ensures { HasDone core.old core.new numbers.new (call caller op.now ∷ []) }
 {
     core.known();
     let number = &mut numbers[caller.0 as usize];
@@ -87,8 +88,8 @@ fn make_turns<F: Flash, T: Tune, E: Pick>(
     count: u32,
 )
     requires opened { IsOpen core.old numbers.now }
-    requires room { HasRoom core.old (replicate count (turn kind)) }
-    ensures { Went core.old core.new numbers.now (replicate count (turn kind)) }
+    requires room { HasRoomFor core.old (replicate count (turn kind)) }
+    ensures { HasDone core.old core.new numbers.now (replicate count (turn kind)) }
 {
     for _ in 0..count {
         make_turn(core, numbers, kind);
@@ -99,7 +100,7 @@ fn make_turns<F: Flash, T: Tune, E: Pick>(
 fn make_turn<F: Flash, T: Tune, E: Pick>(core: &mut Core<F, T, E>, numbers: &[u32], kind: Kind)
     requires opened { IsOpen core.old numbers.now }
     requires room { 0 < spare_turns core.old }
-    ensures { Went core.old core.new numbers.now (turn kind ∷ []) }
+    ensures { HasDone core.old core.new numbers.now (turn kind ∷ []) }
 {
     let _ = back(core, kind);
 }

@@ -166,9 +166,14 @@ fn open_core<T: Tune + Drop, E: Pick + Drop>(
     ensures { IfOk result (λ core. core ≡ first_core setting.geometry (planned_of setting.plan)
         setting.tuner setting.picker room) }
 {
-    let flash = SimFlash::new(alloc, &setting.geometry, setting.plan)?;
-    let (tuner, picker) = (setting.tuner, setting.picker);
-    match Core::fresh(alloc, flash, setting.geometry, tuner, picker, room) {
+    let Setting {
+        geometry,
+        plan,
+        tuner,
+        picker,
+    } = setting;
+    let flash = SimFlash::new(alloc, &geometry, plan)?;
+    match Core::fresh(alloc, flash, geometry, tuner, picker, room) {
         Ok(core) => Ok(core),
         Err(_) => Err(NoMemory),
     }

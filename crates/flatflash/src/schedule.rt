@@ -23,6 +23,7 @@ use std::alloc::Global;
 /// The session starts from nothing, its replies are those of a flat byte array, and its calls and
 /// turns are the rows of the trace in their order. What each status means, and when it comes, is in
 /// `docs/FORMATS.md`.
+#[tactic(auto, using(crate::proofs::Ended::ended_scheduled, crate::proofs::Ended::ended_loaded, crate::proofs::Ended::ended_refused))]
 pub fn schedule<S: Source, K: Sink, T: Tune + Drop, E: Pick + Drop>(
     alloc: Global,
     words: &[String],

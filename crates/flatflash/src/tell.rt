@@ -1,7 +1,7 @@
 // What is written of a run, and the status that it ends with.
 ghost use Rattle.std.specs.Prelude.{◌≡◌, ◌<◌, ◌^◌, length, vec_len};
 ghost use Rattle.ff_report.specs.Wrote.{Wrote};
-ghost use Rattle.flatflash.specs.Ending.{Tells, input_status, loaded, ran, refusal_status, refused, session_text, sessions_text, settings_status, sink_change, summaries_text, summary_text};
+ghost use Rattle.flatflash.specs.Ending.{Tells, input_status, loaded, ran, refusal_status, refused, text_of_session, sessions_text, settings_status, sink_change, summaries_text, summary_of_session};
 
 use crate::lines::line_of;
 use crate::outcome::{
@@ -61,7 +61,7 @@ fn write_sessions<K: Sink>(sink: &mut K, sessions: &[Session]) -> Result<(), Fai
 
 fn write_one<K: Sink>(sink: &mut K, at: u32, session: &Session) -> Result<(), Failed>
     ensures { Wrote result (K.written sink.old) (K.written sink.new)
-        (K.faults sink.old) (K.faults sink.new) (session_text at session.now) }
+        (K.faults sink.old) (K.faults sink.new) (text_of_session at session.now) }
 {
     let account = &session.account;
     write_run(
@@ -100,7 +100,7 @@ fn write_summaries<K: Sink>(sink: &mut K, number: u32, sessions: &[Session]) -> 
 
 fn summarize<K: Sink>(sink: &mut K, number: u32, session: &Session) -> Result<(), Failed>
     ensures { Wrote result (K.written sink.old) (K.written sink.new)
-        (K.faults sink.old) (K.faults sink.new) (summary_text number session.now) }
+        (K.faults sink.old) (K.faults sink.new) (summary_of_session number session.now) }
 {
     let account = &session.account;
     write_run_summary(
