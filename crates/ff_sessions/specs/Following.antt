@@ -1,0 +1,72 @@
+-- How far a run has come by whole sessions.
+use Rattle.std.specs.Prelude.{ℕ, ◌+◌, ◌*◌, ◌^◌, ◌<◌, ◌≤◌, ◌≡◌, nat_lt, Bool, true, false, List, [], ◌∷◌, length, count_by, Option, None, Some, IfNone, IfSome}
+use Rattle.ff_core.specs.Account.{Start}
+use Rattle.ff_flash.specs.Plans.{Planned, cut_numbers}
+use Rattle.ff_trace.specs.declared.row.Row.{Row}
+use Rattle.ff_sessions.specs.Begun.{IsBegun}
+use Rattle.ff_sessions.specs.Items.{Item, items_of, loss}
+use Rattle.ff_sessions.specs.Making.{HasRoomFor, most_operations}
+use Rattle.ff_sessions.specs.Sessions.{IsNextSession, Setup, first_start, start_after}
+use Rattle.ff_sessions.specs.Stops.{items_at}
+use Rattle.ff_sessions.specs.declared.chain.Open.{Open}
+use Rattle.ff_sessions.specs.declared.chain.Step.{Step}
+use Rattle.ff_sessions.specs.declared.session.Session.{Session}
+use Rattle.ff_sessions.specs.declared.stop.Place.{Place}
+
+abbrev pub is_loss : Item → Bool
+is_loss (loss arrive) = true
+is_loss item = false
+
+-- how many sessions may still end in front of the last one: by the losses among the items, and by the cuts that the plan
+-- has past so many operations
+abbrev pub stops_left : ℕ → Planned → List Item → ℕ
+stops_left operations plan items =
+    count_by is_loss items + count_by (λ at. nat_lt operations at) (cut_numbers plan.cuts)
+
+-- sessions that all have an image took items one after the other: these are left, and the next session starts here
+abbrev pub Follow : Setup → Start → List Item → List Session → Start → List Item → Type 0
+Follow setup start items [] next left = (start ≡ next) × (items ≡ left)
+Follow setup start items (session ∷ later) next left =
+    (middle : List Item) × IsNextSession setup start session items middle × (session.stop ≡ None)
+    × Follow setup (start_after setup session) middle later next left
+
+-- the most operations of a mount and an image, and of the call or turn that was cut before them
+abbrev pub most_between : ℕ
+most_between = 2 ^ 17
+
+-- a session that begins so has room and life for the rows from a place on, and for all sessions behind it
+pub record MayRun {T E : Type 0} (setup : Setup) (start : Start) (rows : List Row) (open_now : Open T E)
+    : Type 0 where
+  pub begun : IsBegun setup start open_now.core
+  pub place : open_now.at.row ≤ length rows
+  pub room : HasRoomFor open_now.core (items_at rows open_now.at)
+  pub life : start.operations + most_operations * length (items_at rows open_now.at)
+      + most_between * (stops_left start.operations setup.plan (items_at rows open_now.at) + 1)
+      ≤ 2 ^ 61
+
+-- the sessions so far took the items in front of the open one's, and few more may follow
+pub record IsRunning {T E : Type 0} (setup : Setup) (rows : List Row) (sessions : List Session)
+    (open_now : Open T E) : Type 0 where
+  pub start : Start
+  pub follow : Follow setup (first_start setup) (items_of rows) sessions start
+      (items_at rows open_now.at)
+  pub may_run : MayRun setup start rows open_now
+  pub few : length sessions
+      + stops_left start.operations setup.plan (items_at rows open_now.at) ≤ 16
+
+-- the next session is open behind one that has an image, and a loss of power less is left
+pub record GoesOn {T E : Type 0} (setup : Setup) (rows : List Row) (session : Session)
+    (items left : List Item) (start : Start) (open_now : Open T E) : Type 0 where
+  pub imaged : session.stop ≡ None
+  pub left_is : left ≡ items_at rows open_now.at
+  pub may_run : MayRun setup (start_after setup session) rows open_now
+  pub fewer : stops_left (start_after setup session).operations setup.plan left + 1
+      ≤ stops_left start.operations setup.plan items
+
+-- a session took its items and is good. The next one is open, or the run is over
+pub record IsStep {T E : Type 0} (setup : Setup) (start : Start) (rows : List Row) (at : Place)
+    (step : Step T E) : Type 0 where
+  pub left : List Item
+  pub next : IsNextSession setup start step.session (items_at rows at) left
+  pub again : IfSome step.next (GoesOn setup rows step.session (items_at rows at) left start)
+  pub ends : IfNone step.next (step.session.stop ≡ None → left ≡ [])

@@ -1,0 +1,10 @@
+pub mod Begun
+pub mod Closing
+pub mod Following
+pub mod Items
+pub mod Making
+pub mod Powered
+pub mod Remounts
+pub mod RowStops
+pub mod Sessions
+pub mod Stops

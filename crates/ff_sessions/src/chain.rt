@@ -1,0 +1,134 @@
+// The chain of sessions of a run.
+ghost use Rattle.std.specs.Prelude.{◌≡◌, ◌≤◌, All, IfOk, length, vec_len};
+ghost use Rattle.ff_base.specs.Geometry.{IsWithinLimits};
+ghost use Rattle.ff_core.specs.Account.{start_of};
+ghost use Rattle.ff_flash.specs.Plans.{IsPlan, planned_of};
+ghost use Rattle.ff_trace.specs.Within.{AreWithin};
+ghost use Rattle.ff_sessions.specs.Begun.{setup_in};
+ghost use Rattle.ff_sessions.specs.Following.{IsStep, MayRun};
+ghost use Rattle.ff_sessions.specs.Items.{items_of};
+ghost use Rattle.ff_sessions.specs.Sessions.{AreSessions, first_start, setup_with};
+
+use crate::closing::{Closed, close};
+use crate::opening::{open_first, open_next};
+use crate::running::{Ran, run_session};
+use crate::session::Session;
+use crate::stop::{Place, Stop};
+use ff_base::{Geometry, NoMemory};
+use ff_core::Core;
+use ff_evict::{Pick, Picker};
+use ff_flash::{Plan, SimFlash};
+use ff_policy::{Tune, Tuner};
+use ff_trace::Row;
+use std::alloc::Global;
+
+/// The most sessions of a run: one for each loss of power, and the last.
+pub const MOST_SESSIONS: u32 = 17;
+
+// A session that is open, and where in the rows it goes on.
+#[derive(Drop)]
+struct Open<T: Tune, E: Pick> {
+    core: Core<SimFlash, T, E>,
+    at: Place,
+}
+
+// A session that is over, and the one behind it, where the run goes on.
+#[derive(Drop)]
+struct Step<T: Tune, E: Pick> {
+    session: Session,
+    next: Option<Open<T, E>>,
+}
+
+// Where the rows go on behind a stop.
+fn behind(stop: Stop) -> Option<Place> {
+    match stop {
+        Stop::Cut(at) => Some(at),
+        Stop::Power { row, .. } => Some(Place {
+            row: row + 1,
+            made: 0,
+        }),
+        Stop::End => None,
+    }
+}
+
+// Opens the session behind one that is over, where that has an image and rows are left.
+fn go_on<T: Tune + Drop, E: Pick + Drop>(
+    alloc: Global,
+    closed: Closed<T, E>,
+    stop: Stop,
+    rows: &[Row],
+    geometry: &Geometry,
+) -> Result<Step<T, E>, NoMemory> {
+    let Closed {
+        session,
+        mounted,
+        tuner,
+        picker,
+    } = closed;
+    let (Some(mounted), Some(base), Some(at)) = (mounted, &session.image, behind(stop)) else {
+        return Ok(Step {
+            session,
+            next: None,
+        });
+    };
+    let event = session.account.events();
+    let left = &rows[at.row..];
+    let core = open_next(alloc, mounted, base, geometry, tuner, picker, left, event)?;
+    Ok(Step {
+        session,
+        next: Some(Open { core, at }),
+    })
+}
+
+// Runs the open session to its end, and opens the one behind it.
+fn step<T: Tune + Drop, E: Pick + Drop>(
+    alloc: Global,
+    open: Open<T, E>,
+    rows: &[Row],
+    geometry: &Geometry,
+) -> Result<Step<T, E>, NoMemory>
+    requires rows { AreWithin 0 rows.now }
+    requires geometry { geometry.now ≡ open.core.geometry }
+    requires may_run { MayRun (setup_in open.core) (start_of open.core) rows.now open }
+    ensures { IfOk result (IsStep (setup_in open.core) (start_of open.core) rows.now open.at) }
+{
+    let Ran { lost, stop } = run_session(open.core, rows, open.at);
+    let closed = close(alloc, lost, geometry)?;
+    go_on(alloc, closed, stop, rows, geometry)
+}
+
+/// Makes the rows of a trace in one session after another: the first starts from nothing, each ends by a loss of power
+/// or with the rows, and the next starts from its image. What was cut is made again first.
+pub fn run<T: Tune + Drop, E: Pick + Drop>(
+    alloc: Global,
+    geometry: Geometry,
+    plan: Plan,
+    tuner: Tuner<T>,
+    picker: Picker<E>,
+    rows: &[Row],
+) -> Result<Vec<Session>, NoMemory>
+    requires geometry { IsWithinLimits geometry }
+    requires plan { IsPlan (planned_of plan) }
+    requires rows { AreWithin (vec_len plan.cuts) rows.now }
+    ensures sessions { IfOk result (λ sessions. AreSessions
+        (setup_with geometry (planned_of plan) tuner.floor)
+        (first_start (setup_with geometry (planned_of plan) tuner.floor))
+        (items_of rows.now) sessions.items) }
+    ensures few { IfOk result (λ sessions. vec_len sessions ≤ 17) }
+{
+    let mut sessions = Vec::new(alloc);
+    let core = open_first(alloc, geometry, plan, tuner, picker, rows)?;
+    let mut open = Open {
+        core,
+        at: Place { row: 0, made: 0 },
+    };
+    for _session in 0..MOST_SESSIONS {
+        let Step { session, next } = step(alloc, open, rows, &geometry)?;
+        sessions.push(session)?;
+        match next {
+            Some(later) => open = later,
+            None => return Ok(sessions),
+        }
+    }
+    unreachable!()
+}

@@ -1,0 +1,58 @@
+// Keeps what a session left, and remounts it.
+ghost use Rattle.std.specs.Prelude.{◌≡◌, ◌≤◌, ◌^◌, IfErr, IfOk};
+ghost use Rattle.ff_base.specs.Geometry.{IsWithinLimits};
+ghost use Rattle.ff_mount.specs.Sound.{AreSound};
+ghost use Rattle.ff_sessions.specs.Closing.{IsClosed};
+
+use crate::remounts::{Remounted, remount};
+use crate::session::Session;
+use ff_base::{Geometry, NoMemory};
+use ff_core::Lost;
+use ff_evict::{Pick, Picker};
+use ff_flash::SimFlash;
+use ff_mount::{MountStop, Mounted};
+use ff_policy::{Tune, Tuner};
+use std::alloc::Global;
+
+/// A session that is over, the parts over which the next one may begin, and what its policy is made with.
+#[derive(Drop)]
+pub struct Closed<T: Tune, E: Pick> {
+    pub session: Session,
+    pub mounted: Option<Mounted<SimFlash>>,
+    pub tuner: Tuner<T>,
+    pub picker: Picker<E>,
+}
+
+/// Keeps a copy of what a session left, and remounts it. A planned stop of the remount is the session's own, and want of
+/// memory is an error.
+pub fn close<T: Tune + Drop, E: Pick + Drop>(
+    alloc: Global,
+    lost: Lost<SimFlash, T, E>,
+    geometry: &Geometry,
+) -> Result<Closed<T, E>, NoMemory>
+    requires geometry { IsWithinLimits geometry.now }
+    requires sound { AreSound geometry.now lost.nv lost.flash }
+    requires life { lost.flash.operations ≤ 2 ^ 61 }
+    ensures { IfOk result (IsClosed geometry.now lost) }
+{
+    let nv = lost.nv.copy(alloc)?;
+    let flash = lost.flash.copy(alloc)?;
+    let (image, mounted, stop) = match remount(alloc, nv, flash, geometry) {
+        Ok(Remounted { mounted, image }) => (Some(image), Some(mounted), None),
+        Err(MountStop::NoMemory) => return Err(NoMemory),
+        Err(stop) => (None, None, Some(stop)),
+    };
+    Ok(Closed {
+        session: Session {
+            base: lost.base,
+            account: lost.account,
+            nv: lost.nv,
+            flash: lost.flash,
+            image,
+            stop,
+        },
+        mounted,
+        tuner: lost.tuner,
+        picker: lost.picker,
+    })
+}
