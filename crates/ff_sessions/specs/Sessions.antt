@@ -14,7 +14,8 @@ use Rattle.ff_mount.specs.Mounted.{mount_probes}
 use Rattle.ff_mount.specs.Stops.{mount_stop}
 use Rattle.ff_mount.specs.declared.stop.MountStop.{MountStop}
 use Rattle.ff_scan.specs.Probing.{first_stop}
-use Rattle.ff_sessions.specs.Items.{BeginWithWork, IsWork, Item, loss, over}
+use Rattle.ff_trace.specs.declared.row.Row.{Row}
+use Rattle.ff_sessions.specs.Items.{BeginWithWork, IsWork, Item, items_of, loss, over}
 use Rattle.ff_sessions.specs.declared.session.Session.{Session}
 
 -- what all sessions of a run have in common: the sizes, the plan of the flash, and the least threshold
@@ -125,6 +126,10 @@ AreSessions setup start items [] = items ≡ []
 AreSessions setup start items (session ∷ later) =
     (left : List Item) × IsNextSession setup start session items left
     × IsFollowed session.stop later (AreSessions setup (start_after setup session) left later)
+
+-- the sessions of a run over rows
+abbrev pub AreSessionsOf : Setup → List Row → List Session → Type 0
+AreSessionsOf setup rows sessions = AreSessions setup (first_start setup) (items_of rows) sessions
 
 -- why the last session has no image
 abbrev pub last_stop : List Session → Option MountStop

@@ -6,8 +6,7 @@ ghost use Rattle.ff_flash.specs.Plans.{IsPlan, planned_of};
 ghost use Rattle.ff_trace.specs.Within.{AreWithin};
 ghost use Rattle.ff_sessions.specs.Begun.{setup_in};
 ghost use Rattle.ff_sessions.specs.Following.{IsStep, MayRun};
-ghost use Rattle.ff_sessions.specs.Items.{items_of};
-ghost use Rattle.ff_sessions.specs.Sessions.{AreSessions, first_start, setup_with};
+ghost use Rattle.ff_sessions.specs.Sessions.{AreSessionsOf, setup_with};
 
 use crate::closing::{Closed, close};
 use crate::opening::{open_first, open_next};
@@ -110,10 +109,8 @@ pub fn run<T: Tune + Drop, E: Pick + Drop>(
     requires geometry { IsWithinLimits geometry }
     requires plan { IsPlan (planned_of plan) }
     requires rows { AreWithin (vec_len plan.cuts) rows.now }
-    ensures sessions { IfOk result (λ sessions. AreSessions
-        (setup_with geometry (planned_of plan) tuner.floor)
-        (first_start (setup_with geometry (planned_of plan) tuner.floor))
-        (items_of rows.now) sessions.items) }
+    ensures sessions { IfOk result (λ sessions. AreSessionsOf
+        (setup_with geometry (planned_of plan) tuner.floor) rows.now sessions.items) }
     ensures few { IfOk result (λ sessions. vec_len sessions ≤ 17) }
 {
     let mut sessions = Vec::new(alloc);
