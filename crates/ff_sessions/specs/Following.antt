@@ -35,31 +35,31 @@ abbrev pub most_between : ℕ
 most_between = 2 ^ 17
 
 -- a session that begins so has room and life for the rows from a place on, and for all sessions behind it
-pub record MayRun {T E : Type 0} (setup : Setup) (start : Start) (rows : List Row) (open_now : Open T E)
+pub record MayRun {T E : Type 0} (setup : Setup) (start : Start) (rows : List Row) (running : Open T E)
     : Type 0 where
-  pub begun : IsBegun setup start open_now.core
-  pub place : open_now.at.row ≤ length rows
-  pub room : HasRoomFor open_now.core (items_at rows open_now.at)
-  pub life : start.operations + most_operations * length (items_at rows open_now.at)
-      + most_between * (stops_left start.operations setup.plan (items_at rows open_now.at) + 1)
+  pub begun : IsBegun setup start running.core
+  pub place : running.at.row ≤ length rows
+  pub room : HasRoomFor running.core (items_at rows running.at)
+  pub life : start.operations + most_operations * length (items_at rows running.at)
+      + most_between * (stops_left start.operations setup.plan (items_at rows running.at) + 1)
       ≤ 2 ^ 61
 
 -- the sessions so far took the items in front of the open one's, and few more may follow
 pub record IsRunning {T E : Type 0} (setup : Setup) (rows : List Row) (sessions : List Session)
-    (open_now : Open T E) : Type 0 where
+    (running : Open T E) : Type 0 where
   pub start : Start
   pub follow : Follow setup (first_start setup) (items_of rows) sessions start
-      (items_at rows open_now.at)
-  pub may_run : MayRun setup start rows open_now
+      (items_at rows running.at)
+  pub may_run : MayRun setup start rows running
   pub few : length sessions
-      + stops_left start.operations setup.plan (items_at rows open_now.at) ≤ 16
+      + stops_left start.operations setup.plan (items_at rows running.at) ≤ 16
 
 -- the next session is open behind one that has an image, and a loss of power less is left
 pub record GoesOn {T E : Type 0} (setup : Setup) (rows : List Row) (session : Session)
-    (items left : List Item) (start : Start) (open_now : Open T E) : Type 0 where
+    (items left : List Item) (start : Start) (running : Open T E) : Type 0 where
   pub imaged : session.stop ≡ None
-  pub left_is : left ≡ items_at rows open_now.at
-  pub may_run : MayRun setup (start_after setup session) rows open_now
+  pub left_is : left ≡ items_at rows running.at
+  pub may_run : MayRun setup (start_after setup session) rows running
   pub fewer : stops_left (start_after setup session).operations setup.plan left + 1
       ≤ stops_left start.operations setup.plan items
 

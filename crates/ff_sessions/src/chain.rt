@@ -80,18 +80,18 @@ fn go_on<T: Tune + Drop, E: Pick + Drop>(
 }
 
 // Runs the open session to its end, and opens the one behind it.
-fn step<T: Tune + Drop, E: Pick + Drop>(
+fn next_session<T: Tune + Drop, E: Pick + Drop>(
     alloc: Global,
-    open: Open<T, E>,
+    running: Open<T, E>,
     rows: &[Row],
     geometry: &Geometry,
 ) -> Result<Step<T, E>, NoMemory>
     requires rows { AreWithin 0 rows.now }
-    requires geometry { geometry.now ≡ open.core.geometry }
-    requires may_run { MayRun (setup_in open.core) (start_of open.core) rows.now open }
-    ensures { IfOk result (IsStep (setup_in open.core) (start_of open.core) rows.now open.at) }
+    requires geometry { geometry.now ≡ running.core.geometry }
+    requires may_run { MayRun (setup_in running.core) (start_of running.core) rows.now running }
+    ensures { IfOk result (IsStep (setup_in running.core) (start_of running.core) rows.now running.at) }
 {
-    let Ran { lost, stop } = run_session(open.core, rows, open.at);
+    let Ran { lost, stop } = run_session(running.core, rows, running.at);
     let closed = close(alloc, lost, geometry)?;
     go_on(alloc, closed, stop, rows, geometry)
 }
@@ -115,15 +115,15 @@ pub fn run<T: Tune + Drop, E: Pick + Drop>(
 {
     let mut sessions = Vec::new(alloc);
     let core = open_first(alloc, geometry, plan, tuner, picker, rows)?;
-    let mut open = Open {
+    let mut running = Open {
         core,
         at: Place { row: 0, made: 0 },
     };
     for _session in 0..MOST_SESSIONS {
-        let Step { session, next } = step(alloc, open, rows, &geometry)?;
+        let Step { session, next } = next_session(alloc, running, rows, &geometry)?;
         sessions.push(session)?;
         match next {
-            Some(later) => open = later,
+            Some(later) => running = later,
             None => return Ok(sessions),
         }
     }

@@ -19,7 +19,7 @@ pub struct Remounted<F: Flash> {
 }
 
 /// Mounts what a session left, and makes the image of it.
-pub fn remount<F: Flash>(
+pub fn remount<F: Flash + Drop>(
     alloc: Global,
     nv: Nv,
     flash: F,
