@@ -5,7 +5,7 @@ use Rattle.ff_input.specs.Input.{SourceChange, Untouched, source_change}
 use Rattle.flatflash.specs.Ending.{EndsAndTells, IsEnd, IsInputEnd, IsLoadEnd, SinkChange, Tells, loads, refused, refuses, schedules}
 use Rattle.flatflash.specs.Words.{AskToLoad, AskToSchedule, IsWordsCause}
 use Rattle.flatflash.specs.declared.refusal.Refusal.{Refusal}
-use Rattle.flatflash.specs.declared.session.Session.{Session}
+use Rattle.ff_sessions.specs.declared.session.Session.{Session}
 
 -- a source that was let alone
 untouched : {S : Type 0} (left : S → Option (List ℕ)) (faults : S → ℕ) (source : S)

@@ -1,97 +1,111 @@
 -- The rows that a number makes are run, and not too many.
 use Rattle.std.proofs.Common.{◌≡◌, ◌+◌, ◌*◌, ◌<◌, ◌≤◌, ◌^◌, ℕ, zero, suc, Bool, true, false, List, [], ◌∷◌, ◌++◌, length, refl, sym, ap, ◌∙◌, arith, length-append}
-use Rattle.std.specs.Prelude.{◌==◌, ◌%◌, if◌then◌else◌, All, sum_by}
+use Rattle.std.specs.Prelude.{◌==◌, ◌-◌, ◌%◌, ◌/◌, if◌then◌else◌, All, cond, count_by}
 use Rattle.std.specs.List.{enumerate_from, flat_map}
-use Rattle.std.proofs.lemmas.Bool.{cases_Bool, lt-ltb}
+use Rattle.std.proofs.lemmas.Bool.{eqb-true}
 use Rattle.std.proofs.lemmas.List.Elements.{All-append, All-cons}
 use Rattle.std.proofs.lemmas.List.Sums.{sum_by-append}
 use Rattle.ff_gen.specs.Calls.{calls_from}
 use Rattle.ff_gen.specs.Generated.{generated, mark_row, mark_rows, rows_at, turn_rows, turns_behind}
-use Rattle.ff_input.specs.Asking.{AreRun, is_run, turns_asked, turns_in_row}
 use Rattle.ff_model.specs.declared.counts.Kind.TheVariants.{Collect, Drain, Evict, Promote}
 use Rattle.ff_model.specs.declared.op.Op.{Op}
 use Rattle.ff_trace.specs.declared.row.Row.{Row}
 use Rattle.ff_trace.specs.declared.row.Row.TheVariants.{Call, Turns}
+use Rattle.ff_trace.specs.Within.{AreWithin, IsOfCaller, is_power, turns_asked, turns_in_row}
 use Rattle.ff_model.specs.declared.op.Op.TheVariants.{Verify}
 
--- the rows are run, at most so many, and ask for at most so many turns
-pub record AreFew (rows : List Row) (most turns : ℕ) : Type 0 where
-  pub run : AreRun rows
-  pub few : length rows ≤ most
-  pub turns_few : turns_asked rows ≤ turns
+-- the rows are of callers, without a loss of power, at most so many, and ask for at most so many turns
+record AreFew (rows : List Row) (most turns : ℕ) : Type 0 where
+  callers : All IsOfCaller rows
+  few : length rows ≤ most
+  turns_few : turns_asked rows ≤ turns
+  powered : count_by is_power rows ≡ 0
 
-none_run : AreRun []
-none_run k d within = absurd (omega arith)
+none_called : All IsOfCaller []
+none_called k d within = absurd (omega arith)
 
-one_run : (row : Row) (rows : List Row) → is_run row ≡ true → AreRun rows → AreRun (row ∷ rows)
-one_run row rows run later = All-cons (λ (r : Row). is_run r ≡ true) row rows run later
+one_called : (row : Row) (rows : List Row) → IsOfCaller row → All IsOfCaller rows → All IsOfCaller (row ∷ rows)
+one_called row rows called later = All-cons IsOfCaller row rows called later
 
 both : (xs ys : List Row) (m n t u : ℕ) → AreFew xs m t → AreFew ys n u → AreFew (xs ++ ys) (m + n) (t + u)
 both xs ys m n t u first second =
     let size = length-append xs ys in
     let turns = sum_by-append turns_in_row xs ys in
+    let losses = sum_by-append (λ row. cond (is_power row) 1 0) xs ys in
     let few = first.few in
     let more = second.few in
     let some = first.turns_few in
     let others = second.turns_few in
-    record { run = All-append (λ (row : Row). is_run row ≡ true) xs ys first.run second.run; few = omega arith; turns_few = omega arith }
+    let on = first.powered in
+    let on_too = second.powered in
+    record {
+      callers = All-append IsOfCaller xs ys first.callers second.callers;
+      few = omega arith;
+      turns_few = omega arith;
+      powered = omega arith;
+    }
 
-turns_run : AreRun turn_rows
-turns_run =
-    one_run (Turns Promote 64) (Turns Evict 32 ∷ Turns Collect 8 ∷ Turns Drain 4 ∷ []) refl
-    (one_run (Turns Evict 32) (Turns Collect 8 ∷ Turns Drain 4 ∷ []) refl
-    (one_run (Turns Collect 8) (Turns Drain 4 ∷ []) refl (one_run (Turns Drain 4) [] refl none_run)))
+turns_called : All IsOfCaller turn_rows
+turns_called =
+    one_called (Turns Promote 64) (Turns Evict 32 ∷ Turns Collect 8 ∷ Turns Drain 4 ∷ []) tt
+    (one_called (Turns Evict 32) (Turns Collect 8 ∷ Turns Drain 4 ∷ []) tt
+    (one_called (Turns Collect 8) (Turns Drain 4 ∷ []) tt (one_called (Turns Drain 4) [] tt none_called)))
 
-marks_run : AreRun mark_rows
-marks_run =
-    one_run (mark_row 0) (mark_row 1 ∷ mark_row 2 ∷ mark_row 3 ∷ []) refl
-    (one_run (mark_row 1) (mark_row 2 ∷ mark_row 3 ∷ []) refl
-    (one_run (mark_row 2) (mark_row 3 ∷ []) refl (one_run (mark_row 3) [] refl none_run)))
+marks_called : All IsOfCaller mark_rows
+marks_called =
+    one_called (mark_row 0) (mark_row 1 ∷ mark_row 2 ∷ mark_row 3 ∷ []) (omega arith)
+    (one_called (mark_row 1) (mark_row 2 ∷ mark_row 3 ∷ []) (omega arith)
+    (one_called (mark_row 2) (mark_row 3 ∷ []) (omega arith) (one_called (mark_row 3) [] (omega arith) none_called)))
 
-behind : (fits : Bool) → AreFew (if fits then turn_rows else []) 4 108
-behind true = record { run = turns_run; few = omega arith; turns_few = omega arith }
-behind false = record { run = none_run; few = omega arith; turns_few = omega arith }
+-- turns come behind each sixteenth call
+turns_due : ℕ → ℕ
+turns_due at = 108 * (at / 16)
 
-called : (number : ℕ) → is_run (Call (record { 0 = number % 4 }) Verify) ≡ true
-called number = let small : number % 4 < 64 = omega arith in lt-ltb (number % 4) 64 small
+behind : (fits : Bool) (at : ℕ) → (at % 16 == 15) ≡ fits → AreFew (if fits then turn_rows else []) 4 (turns_due (at + 1) - turns_due at)
+behind true at is =
+    let last : at % 16 ≡ 15 = eqb-true (at % 16) 15 is in
+    record { callers = turns_called; few = omega arith; turns_few = omega arith; powered = refl }
+behind false at is = record { callers = none_called; few = omega arith; turns_few = omega arith; powered = refl }
 
-at_few : (number : ℕ) (op : Op) → AreFew (rows_at (number, op)) 5 108
-at_few number op = both (Call (record { 0 = number % 4 }) op ∷ []) (turns_behind number) 1 4 0 108
-    (record { run = one_run (Call (record { 0 = number % 4 }) op) [] (called number) none_run; few = omega arith; turns_few = omega arith }) (behind (number % 16 == 15))
+called : (at : ℕ) (op : Op) → AreFew (Call (record { 0 = at % 4 }) op ∷ []) 1 0
+called at op = record {
+  callers = one_called (Call (record { 0 = at % 4 }) op) [] (let small : at % 4 < 64 = omega arith in small) none_called;
+  few = omega arith;
+  turns_few = omega arith;
+  powered = refl;
+}
 
-calls_few : (at : ℕ) (ops : List Op) → AreFew (flat_map rows_at (enumerate_from at ops)) (5 * length ops) (108 * length ops)
-calls_few at [] = record { run = none_run; few = omega arith; turns_few = omega arith }
+at_few : (at : ℕ) (op : Op) → AreFew (rows_at (at, op)) 5 (turns_due (at + 1) - turns_due at)
+at_few at op = both (Call (record { 0 = at % 4 }) op ∷ []) (turns_behind at) 1 4 0 (turns_due (at + 1) - turns_due at) (called at op)
+    (behind (at % 16 == 15) at refl)
+
+calls_few : (at : ℕ) (ops : List Op)
+    → AreFew (flat_map rows_at (enumerate_from at ops)) (5 * length ops) (turns_due (at + length ops) - turns_due at)
+calls_few at [] = record { callers = none_called; few = omega arith; turns_few = omega arith; powered = refl }
 calls_few at (op ∷ ops) =
     let here = at_few at op in
     let later = calls_few (at + 1) ops in
-    let whole = both (rows_at (at, op)) (flat_map rows_at (enumerate_from (at + 1) ops)) 5 (5 * length ops) 108 (108 * length ops) here later in
+    let whole = both (rows_at (at, op)) (flat_map rows_at (enumerate_from (at + 1) ops)) 5 (5 * length ops)
+    (turns_due (at + 1) - turns_due at) (turns_due (at + 1 + length ops) - turns_due (at + 1)) here later in
     let few = whole.few in
     let turns = whole.turns_few in
-    record { run = whole.run; few = omega arith; turns_few = omega arith }
+    record { callers = whole.callers; few = omega arith; turns_few = omega arith; powered = whole.powered }
 
 calls_many : (count state : ℕ) → length (calls_from count state) ≡ count
 unfolding calls_from
 calls_many zero state = refl
 calls_many (suc count) state = ap suc (calls_many count _)
 
-pub generated_few : (number : ℕ) → AreFew (generated number) 100004 2160000
+pub generated_within : (number : ℕ) → AreWithin 0 (generated number)
 unfolding generated
-generated_few number =
+generated_within number =
     let ops = calls_from 20000 number in
     let many = calls_many 20000 number in
-    let marks : AreFew mark_rows 4 0 = record { run = marks_run; few = omega arith; turns_few = omega arith } in
-    let whole = both mark_rows (flat_map rows_at (enumerate_from 0 ops)) 4 (5 * length ops) 0 (108 * length ops) marks (calls_few 0 ops) in
+    let marks : AreFew mark_rows 4 0 =
+    record { callers = marks_called; few = omega arith; turns_few = omega arith; powered = refl } in
+    let whole = both mark_rows (flat_map rows_at (enumerate_from 0 ops)) 4 (5 * length ops) 0
+    (turns_due (0 + length ops) - turns_due 0) marks (calls_few 0 ops) in
     let few = whole.few in
     let turns = whole.turns_few in
-    record { run = whole.run; few = omega arith; turns_few = omega arith }
-
-pub generated_run : (number : ℕ) → AreRun (generated number)
-generated_run number = (generated_few number).run
-
-pub generated_rows : (number : ℕ) → length (generated number) ≤ 262144
-generated_rows number = let few = (generated_few number).few in omega arith
-
-pub generated_turns : (number : ℕ) → turns_asked (generated number) < 2 ^ 22
-generated_turns number = let few = (generated_few number).turns_few in omega arith
-
-pub ruleset generated_fits = (generated_run, generated_rows, generated_turns)
+    let on = whole.powered in
+    record { callers = whole.callers; few = omega arith; turns = omega arith; losses = omega arith }

@@ -10,18 +10,23 @@ use Rattle.ff_input.specs.Input.{HasNoFault, SourceChange, Untouched}
 use Rattle.ff_input.specs.declared.reading.BadInput.{BadInput}
 use Rattle.ff_input.specs.declared.reading.BadInput.TheVariants as bad_input
 use Rattle.ff_io.specs.Known.{AppendsPrefix}
-use Rattle.ff_report.specs.Text.{run_summary, run_text}
+use Rattle.ff_mount.specs.declared.stop.MountStop.{MountStop}
+use Rattle.ff_mount.specs.declared.stop.MountStop.TheVariants as mount_stop
+use Rattle.ff_model.specs.Image.{Content}
+use Rattle.ff_report.specs.Remounted.{Cut, Faulted, Found, RemountedView}
+use Rattle.ff_report.specs.SessionParts.{SessionPartsView}
+use Rattle.ff_report.specs.Text.{session_text, summary_text}
+use Rattle.ff_sessions.specs.Sessions.{AreSessionsOf, last_stop, setup_with}
+use Rattle.ff_sessions.specs.declared.session.Session.{Session}
 use Rattle.ff_settings.specs.Names.{text_of}
 use Rattle.ff_settings.specs.SettingsView.{SettingsView}
 use Rattle.ff_settings.specs.declared.given.BadSettings.{BadSettings}
 use Rattle.ff_settings.specs.declared.given.BadSettings.TheVariants as bad_settings
 use Rattle.ff_trace.specs.declared.row.Row.{Row}
 use Rattle.flatflash.specs.Loads.{load_setup}
-use Rattle.flatflash.specs.Sessions.{AreSessionsOf, setup_of}
 use Rattle.flatflash.specs.Words.{AskToLoad, AskToSchedule, IsWordsCause}
 use Rattle.flatflash.specs.declared.refusal.Refusal.{Refusal}
 use Rattle.flatflash.specs.declared.refusal.Refusal.TheVariants as refusal
-use Rattle.flatflash.specs.declared.session.Session.{Session}
 
 -- the rows of the input were run, or those that a number makes, or the call was refused
 pub data End : Type 0 where
@@ -33,7 +38,7 @@ pub data End : Type 0 where
 abbrev pub RunsInput : ℕ → SourceChange → List Session → Type 0
 RunsInput floor source sessions =
     (settings : SettingsView) × (rows : List Row) × Asks source settings rows
-    × AreSessionsOf (setup_of settings floor) rows sessions
+    × AreSessionsOf (setup_with settings.geometry settings.plan floor) rows sessions
 
 -- why a run of the input is refused. Want of memory has no cause, and no read failed before it
 abbrev pub IsRunRefusal : SourceChange → Refusal → Type 0
@@ -82,25 +87,31 @@ sink_change written faults old new =
       faults_after = faults new;
     }
 
--- the text of a session
-abbrev pub text_of_session : ℕ → Session → List ℕ
-text_of_session at session =
-    run_text at session.account.entries (turn_counts session.account.turns) session.account.counts
+-- the image that the remount after a session found, or why it found none
+abbrev pub found_of : Option Content → Option MountStop → RemountedView
+found_of (Some image) stop = Found image
+found_of None (Some mount_stop.Fault) = Faulted
+found_of None stop = Cut
+
+-- the parts of a session that its text tells
+abbrev pub parts_of : Session → SessionPartsView
+parts_of session = record {
+  entries = session.account.entries;
+  turns = turn_counts session.account.turns;
+  counts = session.account.counts;
+  kept = session.account.kept;
+  image = found_of session.image session.stop;
+}
 
 -- the texts of sessions, one after the other, the first of them with this number
 abbrev pub sessions_text : ℕ → List Session → List ℕ
 sessions_text at [] = []
-sessions_text at (session ∷ later) = text_of_session at session ++ sessions_text (at + 1) later
+sessions_text at (session ∷ later) =
+    session_text at (parts_of session) ++ sessions_text (at + 1) later
 
--- the summary of a session of a number's rows
-abbrev pub summary_of_session : ℕ → Session → List ℕ
-summary_of_session number session =
-    run_summary number session.account.entries (turn_counts session.account.turns)
-    session.account.counts
-
--- the summaries of such sessions
+-- the summaries of the sessions of a number's rows
 abbrev pub summaries_text : ℕ → List Session → List ℕ
-summaries_text number sessions = flat_map (summary_of_session number) sessions
+summaries_text number sessions = flat_map (λ session. summary_text number (parts_of session)) sessions
 
 -- the line of settings that are refused
 abbrev pub settings_text : BadSettings → List ℕ
@@ -151,10 +162,15 @@ refusal_status refusal.NoMemory = 6
 refusal_status refusal.Usage = 1
 refusal_status (refusal.Input why) = input_status why
 
+-- the status of sessions: 7 where the last of them has no image
+abbrev pub stop_status : Option MountStop → ℕ
+stop_status None = 0
+stop_status (Some stop) = 7
+
 -- the status of an end
 abbrev pub end_status : End → ℕ
-end_status (ran sessions) = 0
-end_status (loaded number sessions) = 0
+end_status (ran sessions) = stop_status (last_stop sessions)
+end_status (loaded number sessions) = stop_status (last_stop sessions)
 end_status (refused why) = refusal_status why
 
 -- the sessions of an end

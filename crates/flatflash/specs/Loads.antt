@@ -2,7 +2,7 @@
 use Rattle.std.specs.Prelude.{ℕ}
 use Rattle.ff_base.specs.declared.geometry.Geometry.{Geometry}
 use Rattle.ff_flash.specs.Plans.{no_plan}
-use Rattle.flatflash.specs.Sessions.{Setup, setup_with}
+use Rattle.ff_sessions.specs.Sessions.{Setup, setup_with}
 
 -- the sizes of the run of a generated trace
 abbrev pub load_geometry : Geometry

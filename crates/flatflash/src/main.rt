@@ -5,11 +5,9 @@
 mod lines;
 mod outcome;
 mod refusal;
-mod rows;
 mod rules;
 mod run;
 mod schedule;
-mod session;
 mod tell;
 #[cfg(test)]
 mod tests;

@@ -2,8 +2,8 @@
 ghost use Rattle.std.specs.Prelude.{◌≡◌};
 ghost use Rattle.flatflash.specs.Ending.{flushed_status};
 
-use crate::session::Session;
 use ff_io::Failed;
+use ff_sessions::Session;
 
 /// All was run and written.
 pub const DONE: u8 = 0;
@@ -25,6 +25,9 @@ pub const WRITE_FAULT: u8 = 5;
 
 /// Memory ran out.
 pub const NO_MEMORY: u8 = 6;
+
+/// The last session has no image: a planned fault or cut stopped its mount or its image.
+pub const NO_IMAGE: u8 = 7;
 
 /// What a call of the program came to: the status that it ends with, and its sessions.
 #[derive(Drop)]

@@ -1,17 +1,22 @@
 // What is written of a run, and the status that it ends with.
 ghost use Rattle.std.specs.Prelude.{◌≡◌, ◌<◌, ◌^◌, length, vec_len};
+ghost use Rattle.ff_report.specs.RemountedFields.{remounted_view};
+ghost use Rattle.ff_report.specs.SessionPartsFields.{view_of};
+ghost use Rattle.ff_report.specs.Text.{session_text, summary_text};
 ghost use Rattle.ff_report.specs.Wrote.{Wrote};
-ghost use Rattle.flatflash.specs.Ending.{Tells, input_status, loaded, ran, refusal_status, refused, text_of_session, sessions_text, settings_status, sink_change, summaries_text, summary_of_session};
+ghost use Rattle.ff_sessions.specs.Sessions.{last_stop};
+ghost use Rattle.flatflash.specs.Ending.{Tells, found_of, input_status, loaded, ran, refusal_status, refused, parts_of, sessions_text, settings_status, sink_change, stop_status, summaries_text};
 
 use crate::lines::line_of;
 use crate::outcome::{
-    BAD_INPUT, BAD_SETTINGS, DONE, NO_MEMORY, Outcome, READ_FAULT, USAGE, WRITE_FAULT,
+    BAD_INPUT, BAD_SETTINGS, DONE, NO_IMAGE, NO_MEMORY, Outcome, READ_FAULT, USAGE, WRITE_FAULT,
 };
 use crate::refusal::Refusal;
-use crate::session::Session;
 use ff_input::BadInput;
 use ff_io::{Failed, Sink};
-use ff_report::{write_run, write_run_summary};
+use ff_mount::MountStop;
+use ff_report::{Remounted, SessionParts, write_session, write_summary};
+use ff_sessions::Session;
 use ff_settings::BadSettings;
 use std::alloc::Global;
 
@@ -39,7 +44,7 @@ pub fn tell_sessions<K: Sink>(sink: &mut K, sessions: Vec<Session>) -> Outcome
         result.status result.sessions.items }
 {
     let status = match write_sessions(sink, &sessions) {
-        Ok(()) => DONE,
+        Ok(()) => sessions_status(&sessions),
         Err(Failed) => WRITE_FAULT,
     };
     Outcome { status, sessions }
@@ -51,26 +56,12 @@ fn write_sessions<K: Sink>(sink: &mut K, sessions: &[Session]) -> Result<(), Fai
         (K.faults sink.old) (K.faults sink.new) (sessions_text 0 sessions.now) }
 {
     for (at, session) in sessions.iter().enumerate() {
-        match write_one(sink, at as u32, session) {
+        match write_session(sink, at as u32, &parts_of(session)) {
             Ok(()) => {}
             Err(failed) => return Err(failed),
         }
     }
     Ok(())
-}
-
-fn write_one<K: Sink>(sink: &mut K, at: u32, session: &Session) -> Result<(), Failed>
-    ensures { Wrote result (K.written sink.old) (K.written sink.new)
-        (K.faults sink.old) (K.faults sink.new) (text_of_session at session.now) }
-{
-    let account = &session.account;
-    write_run(
-        sink,
-        at,
-        account.history(),
-        &account.log().turn_counts(),
-        account.counts(),
-    )
 }
 
 /// Writes the summaries of the sessions of a number's rows, and answers with them.
@@ -79,7 +70,7 @@ pub fn tell_summary<K: Sink>(sink: &mut K, number: u32, sessions: Vec<Session>) 
         (loaded number sessions.items) result.status result.sessions.items }
 {
     let status = match write_summaries(sink, number, &sessions) {
-        Ok(()) => DONE,
+        Ok(()) => sessions_status(&sessions),
         Err(Failed) => WRITE_FAULT,
     };
     Outcome { status, sessions }
@@ -90,7 +81,7 @@ fn write_summaries<K: Sink>(sink: &mut K, number: u32, sessions: &[Session]) -> 
         (K.faults sink.old) (K.faults sink.new) (summaries_text number sessions.now) }
 {
     for session in sessions {
-        match summarize(sink, number, session) {
+        match write_summary(sink, number, &parts_of(session)) {
             Ok(()) => {}
             Err(failed) => return Err(failed),
         }
@@ -98,18 +89,38 @@ fn write_summaries<K: Sink>(sink: &mut K, number: u32, sessions: &[Session]) -> 
     Ok(())
 }
 
-fn summarize<K: Sink>(sink: &mut K, number: u32, session: &Session) -> Result<(), Failed>
-    ensures { Wrote result (K.written sink.old) (K.written sink.new)
-        (K.faults sink.old) (K.faults sink.new) (summary_of_session number session.now) }
+// What the text of a session tells.
+fn parts_of(session: &Session) -> SessionParts<'_>
+    ensures { view_of result ≡ parts_of session.now }
 {
     let account = &session.account;
-    write_run_summary(
-        sink,
-        number,
-        account.history(),
-        &account.log().turn_counts(),
-        account.counts(),
-    )
+    SessionParts {
+        history: account.history(),
+        turns: account.log().turn_counts(),
+        counts: *account.counts(),
+        kept: account.kept(),
+        image: found_of(session),
+    }
+}
+
+// The image that the remount after a session found, or why it found none.
+fn found_of(session: &Session) -> Remounted<'_>
+    ensures { remounted_view result ≡ found_of session.now.image session.now.stop }
+{
+    match (&session.image, session.stop) {
+        (Some(image), _) => Remounted::Image(image),
+        (None, Some(MountStop::Fault)) => Remounted::Fault,
+        (None, _) => Remounted::Off,
+    }
+}
+
+fn sessions_status(sessions: &[Session]) -> u8
+    ensures { result ≡ stop_status (last_stop sessions.now) }
+{
+    match sessions.last() {
+        Some(last) if last.stop.is_some() => NO_IMAGE,
+        _ => DONE,
+    }
 }
 
 fn status_of(refusal: Refusal) -> u8
