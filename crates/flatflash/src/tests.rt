@@ -1,5 +1,6 @@
 // Inputs with their status and text, and calls in which a read or a write fails.
 mod cases;
+mod losses;
 
 use crate::outcome::Outcome;
 use crate::rules::{picker, tuner};
@@ -13,7 +14,7 @@ use std::test::Fail;
 const FIRST: &[u8] = b"---\ncaller,op,a,b\n0,store,10,aabb\n0,store,11,cc\n0,load,10,3\n";
 
 // The lines of the text of this input, each of which is one write.
-const FIRST_LINES: [&[u8]; 9] = [
+const FIRST_LINES: [&[u8]; 12] = [
     b"session 0\n",
     b"0 0 store 10 aabb done\n",
     b"0 1 store 11 cc done\n",
@@ -22,6 +23,9 @@ const FIRST_LINES: [&[u8]; 9] = [
     b"lines device 3 host 0 landed 0 dropped 0\n",
     b"moves promoted 0 retreated 0\n",
     b"flash reads 0 programs 0 seals 0 erases 0 faults 0\n",
+    b"kept 3\n",
+    b"pages 1\n",
+    b"line 0 0 00000000000000000000aacc00000000000000000000000000000000000000000000000000000000000000000000000000000000000000000000000000000000\n",
     b"end\n",
 ];
 
@@ -55,6 +59,11 @@ fn sink(alloc: Global, failing_write: u64) -> Result<MemorySink, NoMemory> {
     MemorySink::new(alloc, SINK_ROOM, fail)
 }
 
+/// How many sessions a text tells of.
+fn sessions_in(text: &str) -> usize {
+    text.lines().filter(|line| line.starts_with("session ")).count()
+}
+
 #[test]
 fn inputs_give_their_status_and_text(rt: HostRuntime) -> Result<(), Fail> {
     let alloc = rt.alloc();
@@ -63,7 +72,7 @@ fn inputs_give_their_status_and_text(rt: HostRuntime) -> Result<(), Fail> {
         let outcome = call(alloc, "flatflash schedule", input.as_bytes(), 0, &mut sink)?;
         assert_eq!(rt; outcome.status, *status, "case {at}");
         assert_eq!(rt; sink.written(), text.as_bytes(), "case {at}");
-        assert_eq!(rt; outcome.sessions.len(), usize::from(*status == 0));
+        assert_eq!(rt; outcome.sessions.len(), sessions_in(text), "case {at}");
     }
     Ok(())
 }
