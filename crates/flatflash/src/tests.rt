@@ -1,6 +1,7 @@
 // Inputs with their status and text, and calls in which a read or a write fails.
 mod cases;
 mod losses;
+mod ordinary_log;
 
 use crate::outcome::Outcome;
 use crate::rules::{picker, tuner};

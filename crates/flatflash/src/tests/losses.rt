@@ -85,20 +85,24 @@ fn prefix(alloc: Global, history: &History, count: u32) -> Result<History, NoMem
     Ok(first)
 }
 
+/// Whether a line of the image reads as after these entries.
+fn reads_after(image: &Image, base: &Image, entries: &History, at: u32) -> bool {
+    (at..at + 64).all(|at| image.byte(at) == flat_byte(base, entries, at))
+}
+
+/// Whether each marked line of a page reads as after these entries.
+fn page_reads_after(image: &Image, base: &Image, entries: &History, page: u32) -> bool {
+    let marks = image.marks(PageNo(page));
+    (0..64)
+        .filter(|line| marks >> line & 1 == 1)
+        .all(|line| reads_after(image, base, entries, page * 4096 + line * 64))
+}
+
 /// Whether each marked line of the image reads as after the entries that were kept.
 fn keeps_marked(alloc: Global, session: &Session, image: &Image) -> Result<bool, NoMemory> {
     let kept = prefix(alloc, session.account.history(), session.account.kept())?;
-    for page in 0..image.pages() {
-        let marks = image.marks(PageNo(page));
-        for line in 0..64 {
-            let at = page * 4096 + line * 64;
-            let marked = marks >> line & 1 == 1;
-            if marked && image.byte(at) != flat_byte(&session.base, &kept, at) {
-                return Ok(false);
-            }
-        }
-    }
-    Ok(true)
+    let base = &session.base;
+    Ok((0..image.pages()).all(|page| page_reads_after(image, base, &kept, page)))
 }
 
 /// Whether the sessions are legal, and what their images have marked is what was kept.
