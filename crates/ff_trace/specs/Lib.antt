@@ -2,3 +2,4 @@ pub mod Fields
 pub mod Reading
 pub mod Tally
 pub mod Trace
+pub mod Within
