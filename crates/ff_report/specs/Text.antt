@@ -2,8 +2,6 @@
 -- hexadecimal digits.
 use Rattle.std.specs.Prelude.{ℕ, List, [], ◌∷◌, ◌++◌, codes, decimal, length}
 use Rattle.std.specs.List.{flat_map}
-use Rattle.ff_model.specs.declared.counts.Counts.{Counts}
-use Rattle.ff_model.specs.declared.counts.TurnCounts.{TurnCounts}
 use Rattle.ff_model.specs.declared.history.Entry.{Entry}
 use Rattle.ff_report.specs.CountsText.{turns_line, lines_line, moves_line, flash_line, kept_line}
 use Rattle.ff_report.specs.EntryText.{entries_text}
@@ -25,16 +23,6 @@ end_line = codes "end\n"
 -- a session's calls
 abbrev pub calls_text : ℕ → List Entry → List ℕ
 calls_text at entries = session_line at ++ entries_text entries
-
--- the lines of what a session counted
-abbrev pub count_lines : TurnCounts → Counts → List (List ℕ)
-count_lines turns counts =
-    turns_line turns ∷ lines_line counts ∷ moves_line counts ∷ flash_line counts ∷ []
-
--- the text of a session after which nothing was remounted
-abbrev pub run_text : ℕ → List Entry → TurnCounts → Counts → List ℕ
-run_text at entries turns counts =
-    calls_text at entries ++ (lines_text (count_lines turns counts) ++ end_line)
 
 -- the lines of a session's numbers: what it counted, and how many pages its image holds
 abbrev pub number_lines : SessionPartsView → List (List ℕ)
@@ -61,9 +49,3 @@ abbrev pub summary_text : ℕ → SessionPartsView → List ℕ
 summary_text number session =
     lines_text (load_line number ∷ calls_line (length session.entries) ∷ [])
     ++ (lines_text (number_lines session) ++ end_line)
-
--- the summary of a session whose trace was generated, after which nothing was remounted
-abbrev pub run_summary : ℕ → List Entry → TurnCounts → Counts → List ℕ
-run_summary number entries turns counts =
-    lines_text (load_line number ∷ calls_line (length entries) ∷ [])
-    ++ (lines_text (count_lines turns counts) ++ end_line)

@@ -9,7 +9,6 @@ mod image;
 mod image_lines;
 mod line;
 mod parts;
-mod run;
 mod session;
 mod summary;
 #[cfg(test)]
@@ -18,6 +17,5 @@ mod writing;
 
 pub use line::{LINE_ROOM, Line};
 pub use parts::{Remounted, SessionParts};
-pub use run::{write_run, write_run_summary};
 pub use session::write_session;
 pub use summary::write_summary;

@@ -15,12 +15,9 @@ use std::test::Fail;
 use texts::{Made, TEXTS, Text};
 
 fn write(sink: &mut MemorySink, text: Text, parts: &SessionParts<'_>) -> Result<(), Failed> {
-    let (history, turns, counts) = (parts.history, &parts.turns, &parts.counts);
     match text {
         Text::Session(at) => write_session(sink, at, parts),
         Text::Summary(number) => write_summary(sink, number, parts),
-        Text::Run(at) => write_run(sink, at, history, turns, counts),
-        Text::RunSummary(number) => write_run_summary(sink, number, history, turns, counts),
     }
 }
 

@@ -22,11 +22,9 @@ pub enum Made {
 pub enum Text {
     Session(u32),
     Summary(u32),
-    Run(u32),
-    RunSummary(u32),
 }
 
-pub static TEXTS: [(Made, Text, &str); 14] = [
+pub static TEXTS: [(Made, Text, &str); 12] = [
     (
         Made::WithoutCalls,
         Text::Session(0),
@@ -222,30 +220,6 @@ pub static TEXTS: [(Made, Text, &str); 14] = [
         flash reads 0 programs 0 seals 0 erases 0 faults 0\n\
         kept 0\n\
         no image off\n\
-        end\n",
-    ),
-    (
-        Made::TwoStoresAndALoad,
-        Text::Run(1),
-        "session 1\n\
-        0 0 store 10 aabb done\n\
-        0 1 store 11 cc done\n\
-        0 2 load 10 3 aacc00\n\
-        turns promote 0 0 evict 0 0 collect 0 0 drain 0 0\n\
-        lines device 3 host 0 landed 0 dropped 0\n\
-        moves promoted 0 retreated 0\n\
-        flash reads 0 programs 0 seals 0 erases 0 faults 0\n\
-        end\n",
-    ),
-    (
-        Made::StoreIntoAPromotion,
-        Text::RunSummary(7),
-        "load 7\n\
-        calls 6\n\
-        turns promote 13 13 evict 0 0 collect 0 0 drain 0 0\n\
-        lines device 4 host 2 landed 5 dropped 1\n\
-        moves promoted 1 retreated 0\n\
-        flash reads 0 programs 0 seals 0 erases 0 faults 0\n\
         end\n",
     ),
 ];
