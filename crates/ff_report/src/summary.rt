@@ -38,7 +38,7 @@ fn write_numbers_and_end<K: Sink>(sink: &mut K, session: &SessionParts<'_>) -> R
 }
 
 /// The lines that open a summary.
-pub fn opening_lines_of(number: u32, calls: u32) -> [Line; 2]
+fn opening_lines_of(number: u32, calls: u32) -> [Line; 2]
     ensures { result ≡ load_line number ∷ calls_line calls ∷ [] }
 {
     [load_line_of(number), calls_line_of(calls)]
