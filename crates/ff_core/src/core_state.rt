@@ -16,7 +16,6 @@ ghost use Rattle.ff_core.specs.Powered.{GoesOffByCut};
 ghost use Rattle.ff_core.specs.Turns.{IsTurn};
 
 mod driving;
-mod ending;
 mod losing;
 mod resuming;
 mod until;
@@ -25,7 +24,6 @@ use crate::fresh::{FreshBack, fresh_state};
 use crate::log::{Back, Log};
 use crate::state::State;
 use crate::turn::Turn;
-pub use ending::Ended;
 use ff_base::{Caller, Geometry, PageNo};
 use ff_evict::{Pick, Picker};
 use ff_flash::Flash;

@@ -18,7 +18,7 @@ mod turn;
 
 pub use account::Record;
 pub use action::{Action, Progress};
-pub use core_state::{Core, Ended, Lost, Room};
+pub use core_state::{Core, Lost, Room};
 pub use fresh::FreshBack;
 pub use log::{Back, Log, Turned};
 pub use resume::ResumeBack;

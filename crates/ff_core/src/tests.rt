@@ -159,14 +159,14 @@ fn a_session_ends_in_its_record(rt: HostRuntime) -> Result<(), Fail> {
         (1, 1, 1)
     );
     assert_eq!(rt; (core.floor(), *core.geometry()), (1, Geometry::default()));
-    let ended = core.finish();
+    let lost = core.power(4);
     assert_eq!(rt;
-        (ended.account.from_event(), ended.account.events()),
+        (lost.account.from_event(), lost.account.events()),
         (0, 1)
     );
-    assert_eq!(rt; ended.account.counts(), &Counts::default());
+    assert_eq!(rt; lost.account.counts(), &Counts::default());
     assert!(rt;
-        ended
+        lost
             .account
             .log()
             .get(0)

@@ -3,6 +3,8 @@ ghost use Rattle.std.specs.Prelude.{◌≡◌};
 ghost use Rattle.ff_flash.specs.FlashState.{powered_off};
 ghost use Rattle.ff_lines.specs.DeviceState.{IsDevice};
 ghost use Rattle.ff_memory.specs.Memory.{IsMemorySound};
+ghost use Rattle.ff_policy.specs.Policy.{IsPolicySound};
+ghost use Rattle.ff_store.specs.PageStore.{IsStoreSound};
 ghost use Rattle.ff_core.specs.Account.{IsAccountOf, start_of};
 ghost use Rattle.ff_core.specs.CoreSound.{IsCoreSound};
 ghost use Rattle.ff_core.specs.Hierarchy.{flash_under, lines_under};
@@ -57,6 +59,15 @@ impl<F: Flash, T: Tune, E: Pick> Core<F, T, E> {
         self.parts_known();
         self.ledgers_known();
         lose(self.state, arrive)
+    }
+
+    // What the store and the policy of every core keep. For the prover alone.
+    fn ledgers_known(&self)
+        ensures store { IsStoreSound self.now.hierarchy.device.store }
+        ensures policy { IsPolicySound self.now.hierarchy.policy }
+    {
+        self.state.hierarchy.device.store().known();
+        self.state.hierarchy.policy.known();
     }
 }
 
