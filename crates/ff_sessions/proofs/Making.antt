@@ -6,6 +6,7 @@ use Rattle.ff_core.specs.Core.{CoreView, spare_calls, spare_turns}
 use Rattle.ff_core.specs.Drives.{SameSession}
 use Rattle.ff_core.specs.Hierarchy.{flash_under}
 use Rattle.ff_core.specs.Log.{LogView}
+use Rattle.ff_core.specs.Powered.{IsCutOff}
 use Rattle.ff_core.proofs.Driving.{session_more}
 use Rattle.ff_core.proofs.MissRuns.{store_same}
 use Rattle.ff_flash.specs.FlashState.{FlashState}
@@ -13,7 +14,6 @@ use Rattle.ff_model.specs.History.{Entries}
 use Rattle.ff_model.specs.declared.counts.Kind.{Kind}
 use Rattle.ff_sessions.specs.Items.{IsWork, Item, turn}
 use Rattle.ff_sessions.specs.Making.{DidItems, HasDone, HasRoomFor, IsCutBehind, IsOpen, RisesBy, is_call, is_turn}
-use Rattle.ff_sessions.specs.Powered.{IsCutOff}
 use Rattle.ff_sessions.proofs.Work.{count_append, turns_counted}
 
 pub session_same : {T E : Type 0} (core : CoreView T E) → SameSession core core

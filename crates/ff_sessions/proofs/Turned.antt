@@ -2,11 +2,12 @@
 use Rattle.std.proofs.Common.{◌≡◌, ◌<◌, ◌≤◌, ◌+◌, ◌-◌, ℕ, zero, suc, true, false, List, [], ◌∷◌, ◌++◌, length, refl, sym, ap, ◌∙◌, subst, arith, length-append}
 use Rattle.std.specs.Prelude.{replicate}
 use Rattle.std.proofs.lemmas.List.{append-nil, replicate-append-replicate}
-use Rattle.ff_core.specs.BackEvents.{IsBackEvent}
+use Rattle.ff_core.specs.BackEvents.{IsBackEvent, IsLogged}
 use Rattle.ff_core.specs.Backs.{turned_now, with_logged}
 use Rattle.ff_core.specs.Core.{CoreView, spare_turns}
 use Rattle.ff_core.specs.Hierarchy.{flash_under}
 use Rattle.ff_core.specs.Log.{LogView}
+use Rattle.ff_core.specs.Powered.{GoesOffByCut}
 use Rattle.ff_core.specs.declared.log.Back.{Back}
 use Rattle.ff_core.specs.declared.log.Back.TheVariants.{Did, Idle, Failed, Off, Spent}
 use Rattle.ff_flash.specs.FlashState.{FlashState}
@@ -15,7 +16,6 @@ use Rattle.ff_model.specs.declared.counts.Kind.{Kind}
 use Rattle.ff_model.specs.declared.history.Entry.{Entry}
 use Rattle.ff_sessions.specs.Items.{BeginWithWork, IsWork, Item, turn}
 use Rattle.ff_sessions.specs.Making.{HasDone, IsCutBehind, IsOpen, RisesBy}
-use Rattle.ff_sessions.specs.Powered.{GoesOffByCut, IsLogged}
 use Rattle.ff_sessions.specs.RowStops.{IsCutIn}
 use Rattle.ff_sessions.proofs.Making.{cut_first, cut_then, went_then}
 use Rattle.ff_sessions.proofs.Work.{work_append}
@@ -41,10 +41,10 @@ turn_of old kind Off new other logged = absurd (other refl)
 
 -- a turn was made
 pub went_turn : {T E : Type 0} (old : CoreView T E) (numbers : List ℕ) (kind : Kind) (back : Back) (new : CoreView T E)
-    → (back ≡ Off → ⊥) → IsOpen old numbers → 0 < spare_turns old → IsBackEvent old kind back new → IsLogged old kind back new
+    → (back ≡ Off → ⊥) → IsOpen old numbers → 0 < spare_turns old → IsBackEvent old kind back new
     → HasDone old new numbers (turn kind ∷ [])
-went_turn old numbers kind back new other opened spare event logged =
-    let has = turn_of old kind back new other logged in
+went_turn old numbers kind back new other opened spare event =
+    let has = turn_of old kind back new other event.logged in
     let turned = turned_now old kind back in
     let turns : new.log.turns ≡ old.log.turns ++ turned ∷ [] = ap (λ (l : LogView). l.turns) has.log in
     let entries : new.history.entries ≡ old.history.entries = ap (λ (h : Entries). h.entries) event.history in
@@ -75,12 +75,12 @@ went_turn old numbers kind back new other opened spare event logged =
 -- one more turn of a row, of which so many are made by then
 pub went_turns : {T E : Type 0} (a b c : CoreView T E) (numbers : List ℕ) (kind : Kind) (back : Back) (count more : ℕ)
     → count + 1 ≡ more → (back ≡ Off → ⊥) → HasDone a b numbers (replicate count (turn kind)) → 0 < spare_turns b
-    → IsBackEvent b kind back c → IsLogged b kind back c → HasDone a c numbers (replicate more (turn kind))
-went_turns a b c numbers kind back count more is other first spare event logged =
+    → IsBackEvent b kind back c → HasDone a c numbers (replicate more (turn kind))
+went_turns a b c numbers kind back count more is other first spare event =
     subst (λ (n : ℕ). HasDone a c numbers (replicate n (turn kind))) is
     (subst (λ (items : List Item). HasDone a c numbers items) (replicate-append-replicate count 1 (turn kind))
     (went_then a b c numbers numbers (replicate count (turn kind)) (turn kind ∷ []) first
-    (went_turn b numbers kind back c other first.opened spare event logged)))
+    (went_turn b numbers kind back c other first.opened spare event)))
 
 begin_turns : (count : ℕ) (kind : Kind) → 0 < count → BeginWithWork (replicate count (turn kind))
 begin_turns zero kind some = absurd (omega arith)
@@ -88,13 +88,13 @@ begin_turns (suc count) kind some = tt
 
 -- a turn of a row was cut, behind so many
 pub cut_turns : {T E : Type 0} (a b c : CoreView T E) (numbers : List ℕ) (kind : Kind) (count made at : ℕ) → made ≤ at → at < count
-    → HasDone a b numbers (replicate (at - made) (turn kind)) → IsBackEvent b kind Off c → IsLogged b kind Off c
+    → HasDone a b numbers (replicate (at - made) (turn kind)) → IsBackEvent b kind Off c
     → GoesOffByCut (flash_under b.hierarchy) (flash_under c.hierarchy)
     → IsCutIn a c (replicate (count - made) (turn kind)) (replicate (count - at) (turn kind))
-cut_turns a b c numbers kind count made at from within first event logged goes =
+cut_turns a b c numbers kind count made at from within first event goes =
     let both : (at - made) + (count - at) ≡ count - made = omega arith in
-    let cut = cut_first b numbers c first.opened event.same event.history logged.0 (turn_rise b kind Off c event)
-    (goes first.opened.on logged.1) in
+    let cut = cut_first b numbers c first.opened event.same event.history event.logged.0 (turn_rise b kind Off c event)
+    (goes first.opened.on event.logged.1) in
     record {
       done = replicate (at - made) (turn kind);
       split = sym (replicate-append-replicate (at - made) (count - at) (turn kind) ∙ ap (λ (n : ℕ). replicate n (turn kind)) both);

@@ -2,9 +2,8 @@
 ghost use Rattle.std.specs.Prelude.{◌≡◌, ◌<◌, ◌≤◌, ◌-◌, [], All, length, replicate, true};
 ghost use Rattle.ff_core.specs.BackEvents.{IsBackEvent};
 ghost use Rattle.ff_core.specs.Core.{spare_calls, spare_turns};
-ghost use Rattle.ff_core.specs.Drives.{IsDriven};
 ghost use Rattle.ff_core.specs.Hierarchy.{flash_under};
-ghost use Rattle.ff_sessions.specs.Powered.{GoesOffByCut, IsLogged, IsOnIfServed};
+ghost use Rattle.ff_core.specs.Powered.{GoesOffByCut};
 ghost use Rattle.ff_trace.specs.Within.{IsOfCaller};
 ghost use Rattle.ff_trace.specs.declared.row.Row.TheVariants as rows;
 ghost use Rattle.ff_sessions.specs.Items.{turn};
@@ -107,7 +106,7 @@ fn make_call<F: Flash, T: Tune, E: Pick>(
 {
     core.known();
     let number = &mut numbers[caller.0 as usize];
-    match drive(core, caller, *number, op) {
+    match core.drive(caller, *number, op) {
         Driven::Served(_) => {
             *number += 1;
             RowStop::Done
@@ -137,26 +136,9 @@ fn make_turns<F: Flash, T: Tune, E: Pick>(
     RowStop::Done
 }
 
-// Makes the events of a call.
-fn drive<F: Flash, T: Tune, E: Pick>(
-    core: &mut Core<F, T, E>,
-    caller: Caller,
-    number: u32,
-    op: &Op,
-) -> Driven
-    requires { 0 < spare_calls core.old }
-    ensures driven { IsDriven core.old caller number op.now result core.new }
-    ensures on { IsOnIfServed result (flash_under core.new.hierarchy) }
-    ensures power { GoesOffByCut (flash_under core.old.hierarchy) (flash_under core.new.hierarchy) }
-{
-    core.drive(caller, number, op)
-}
-
-// Makes a turn of a kind.
 fn back<F: Flash, T: Tune, E: Pick>(core: &mut Core<F, T, E>, kind: Kind) -> Back
     requires { 0 < spare_turns core.old }
     ensures event { IsBackEvent core.old kind result core.new }
-    ensures logged { IsLogged core.old kind result core.new }
     ensures power { GoesOffByCut (flash_under core.old.hierarchy) (flash_under core.new.hierarchy) }
 {
     match kind {

@@ -9,7 +9,7 @@ back-requires g c = ?
 pub returns-in-Off : goal.returns-in-Off
 returns-in-Off g c =
     cut_turns c.args.core.now c.loop-turn.core c.back.new.core c.args.numbers.now c.args.kind c.args.count c.args.made c.loop-turn.turn
-    (omega arith) c.loop-turn-test.true c.loop-turn.invariant.done c.in-Off.ensures.event c.in-Off.ensures.logged c.in-Off.ensures.power
+    (omega arith) c.loop-turn-test.true c.loop-turn.invariant.done c.in-Off.ensures.event c.in-Off.ensures.power
 
 pub loop-turn-preserved : goal.loop-turn-preserved
 loop-turn-preserved g c = ?
