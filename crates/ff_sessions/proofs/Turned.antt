@@ -1,5 +1,5 @@
 -- What the background turns of a row make of an open session.
-use Rattle.std.proofs.Common.{◌≡◌, ◌<◌, ◌≤◌, ◌+◌, ◌-◌, ℕ, zero, suc, true, false, List, [], ◌∷◌, ◌++◌, length, refl, sym, ap, ◌∙◌, subst, arith, length-append}
+use Rattle.std.proofs.Common.{◌≡◌, ◌⊎◌, ◌<◌, ◌≤◌, ◌+◌, ◌-◌, ℕ, zero, suc, true, false, inl, inr, List, [], ◌∷◌, ◌++◌, length, refl, sym, ap, ◌∙◌, subst, arith, length-append}
 use Rattle.std.specs.Prelude.{replicate}
 use Rattle.std.proofs.lemmas.List.{append-nil, replicate-append-replicate}
 use Rattle.ff_core.specs.BackEvents.{IsBackEvent, IsLogged}
@@ -10,14 +10,14 @@ use Rattle.ff_core.specs.Log.{LogView}
 use Rattle.ff_core.specs.Powered.{GoesOffByCut}
 use Rattle.ff_core.specs.declared.log.Back.{Back}
 use Rattle.ff_core.specs.declared.log.Back.TheVariants.{Did, Idle, Failed, Off, Spent}
-use Rattle.ff_flash.specs.FlashState.{FlashState}
+use Rattle.ff_memory.specs.declared.access.What.{What}
 use Rattle.ff_model.specs.History.{Entries}
 use Rattle.ff_model.specs.declared.counts.Kind.{Kind}
 use Rattle.ff_model.specs.declared.history.Entry.{Entry}
 use Rattle.ff_sessions.specs.Items.{BeginWithWork, IsWork, Item, turn}
 use Rattle.ff_sessions.specs.Making.{HasDone, IsCutBehind, IsOpen, RisesBy}
 use Rattle.ff_sessions.specs.RowStops.{IsCutIn}
-use Rattle.ff_sessions.proofs.Making.{cut_first, cut_then, went_then}
+use Rattle.ff_sessions.proofs.Making.{cut_first, cut_then, went_none, went_then}
 use Rattle.ff_sessions.proofs.Work.{work_append}
 
 turn_rise : {T E : Type 0} (old : CoreView T E) (kind : Kind) (back : Back) (new : CoreView T E) → IsBackEvent old kind back new
@@ -81,6 +81,21 @@ went_turns a b c numbers kind back count more is other first spare event =
     (subst (λ (items : List Item). HasDone a c numbers items) (replicate-append-replicate count 1 (turn kind))
     (went_then a b c numbers numbers (replicate count (turn kind)) (turn kind ∷ []) first
     (went_turn b numbers kind back c other first.opened spare event)))
+
+-- no turn was made
+pub turns_none : {T E : Type 0} (core : CoreView T E) (numbers : List ℕ) (kind : Kind) (made : ℕ) → IsOpen core numbers
+    → HasDone core core numbers (replicate (made - made) (turn kind))
+turns_none core numbers kind made opened =
+    let none : 0 ≡ made - made = omega arith in
+    subst (λ (n : ℕ). HasDone core core numbers (replicate n (turn kind))) none (went_none core numbers opened)
+
+-- each answer but that the power is off
+pub not_off : (back : Back) → ((what : What) × (back ≡ Did what)) ⊎ ((back ≡ Idle) ⊎ ((back ≡ Failed) ⊎ (back ≡ Spent)))
+    → back ≡ Off → ⊥
+not_off back (inl did) off = let both : Did did.0 ≡ Off = sym did.1 ∙ off in cc
+not_off back (inr (inl idle)) off = let both : Idle ≡ Off = sym idle ∙ off in cc
+not_off back (inr (inr (inl failed))) off = let both : Failed ≡ Off = sym failed ∙ off in cc
+not_off back (inr (inr (inr spent))) off = let both : Spent ≡ Off = sym spent ∙ off in cc
 
 begin_turns : (count : ℕ) (kind : Kind) → 0 < count → BeginWithWork (replicate count (turn kind))
 begin_turns zero kind some = absurd (omega arith)

@@ -93,6 +93,7 @@ fn make_row<F: Flash, T: Tune, E: Pick>(
     }
 }
 
+#[tactic(auto, using(crate::proofs::Numbers::few_of))]
 fn make_call<F: Flash, T: Tune, E: Pick>(
     core: &mut Core<F, T, E>,
     numbers: &mut [u32],
