@@ -31,13 +31,6 @@ pub caller_at : (rows : List Row) (i : ℕ) (row : Row) → All IsOfCaller rows 
 caller_at rows i row all within is =
     subst IsOfCaller (sym is) (All-get_or IsOfCaller rows i row within all)
 
--- a call isn't made in parts
-pub call_whole : {T E : Type 0} (old : CoreView T E) (caller : _) (op : _) (made : ℕ) (stop : RowStop) (new : CoreView T E)
-    (numbers : List ℕ) → RowRuns old (Call caller op) 0 stop new numbers → RowRuns old (Call caller op) made stop new numbers
-call_whole old caller op made row_stops.Done new numbers runs = runs
-call_whole old caller op made (row_stops.Cut more) new numbers runs = runs
-call_whole old caller op made (row_stops.Power arrive) new numbers runs = runs
-
 -- the items from a place on up to another were done
 pub record HasCome {T E : Type 0} (old : CoreView T E) (rows : List Row) (at : Place) (new : CoreView T E) (numbers : List ℕ)
     (row made : ℕ) : Type 0 where
