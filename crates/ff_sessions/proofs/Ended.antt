@@ -21,7 +21,7 @@ use Rattle.ff_sessions.specs.Begun.{IsBegun, IsRun, setup_in}
 use Rattle.ff_sessions.specs.Items.{Item}
 use Rattle.ff_sessions.specs.Making.{IsPoweredAt, StopsAt, most_operations}
 use Rattle.ff_sessions.specs.Sessions.{MayLeave, arrive_by, cut_by, ending_items}
-use Rattle.ff_sessions.specs.Stops.{ending_of, items_at, items_behind, stop_items}
+use Rattle.ff_sessions.specs.Stops.{ending_of, items_behind, stop_items}
 use Rattle.ff_sessions.specs.declared.stop.Place.{Place}
 use Rattle.ff_sessions.specs.declared.stop.Stop.{Stop}
 use Rattle.ff_sessions.specs.declared.stop.Stop.TheVariants as stops

@@ -1,6 +1,6 @@
 -- What a call, a turn and several of them make of an open session.
-use Rattle.std.proofs.Common.{◌≡◌, ◌<◌, ◌≤◌, ◌+◌, ◌-◌, ℕ, List, [], ◌∷◌, ◌++◌, length, refl, ap, subst, arith, append_assoc, length-append}
-use Rattle.std.specs.Prelude.{count_by, replicate}
+use Rattle.std.proofs.Common.{◌≡◌, ◌<◌, ◌≤◌, ◌+◌, ◌-◌, ℕ, List, [], ◌++◌, length, refl, ap, subst, arith, append_assoc, length-append}
+use Rattle.std.specs.Prelude.{replicate}
 use Rattle.std.proofs.lemmas.List.{append-nil}
 use Rattle.ff_core.specs.Core.{CoreView, spare_calls, spare_turns}
 use Rattle.ff_core.specs.Drives.{SameSession}

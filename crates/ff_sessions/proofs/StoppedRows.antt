@@ -1,5 +1,5 @@
 -- How far the rows of a session have come, and where they stop.
-use Rattle.std.proofs.Common.{◌≡◌, ◌+◌, ◌<◌, ◌≤◌, ℕ, true, List, [], ◌∷◌, ◌++◌, length, get_or, drop, refl, sym, ap, ◌∙◌, subst, arith, append_assoc}
+use Rattle.std.proofs.Common.{◌≡◌, ◌+◌, ◌<◌, ◌≤◌, ℕ, true, List, [], ◌++◌, length, get_or, drop, refl, sym, ap, ◌∙◌, subst, arith, append_assoc}
 use Rattle.std.specs.Prelude.{All, replicate}
 use Rattle.std.proofs.lemmas.List.{append-nil}
 use Rattle.std.proofs.lemmas.List.Elements.{All-get_or}
@@ -7,16 +7,15 @@ use Rattle.ff_core.specs.Core.{CoreView}
 use Rattle.ff_core.specs.Hierarchy.{flash_under}
 use Rattle.ff_trace.specs.Within.{IsOfCaller}
 use Rattle.ff_trace.specs.declared.row.Row.{Row}
-use Rattle.ff_trace.specs.declared.row.Row.TheVariants.{Call, Power}
+use Rattle.ff_trace.specs.declared.row.Row.TheVariants.{Power}
 use Rattle.ff_sessions.specs.Items.{BeginWithWork, Item, items_of}
 use Rattle.ff_sessions.specs.Making.{HasDone, HasRoomFor, IsOpen, RisesBy, StopsAt}
 use Rattle.ff_sessions.specs.RowStops.{IsCutIn, RowRuns}
 use Rattle.ff_sessions.specs.Stops.{items_at, items_from, row_left}
-use Rattle.ff_sessions.specs.declared.rows.RowStop.{RowStop}
 use Rattle.ff_sessions.specs.declared.rows.RowStop.TheVariants as row_stops
 use Rattle.ff_sessions.specs.declared.stop.Place.{Place}
 use Rattle.ff_sessions.specs.declared.stop.Stop.TheVariants as stops
-use Rattle.ff_sessions.proofs.Making.{cut_then, rise_then, room_front, room_left, went_none, went_then}
+use Rattle.ff_sessions.proofs.Making.{cut_then, room_front, room_left, went_none, went_then}
 use Rattle.ff_sessions.proofs.Numbers.{next_none}
 use Rattle.ff_sessions.proofs.RowItems.{begin_append, items_here, items_past, items_whole}
 

@@ -8,7 +8,7 @@ ghost use Rattle.ff_trace.specs.Within.{IsOfCaller};
 ghost use Rattle.ff_trace.specs.declared.row.Row.TheVariants as rows;
 ghost use Rattle.ff_sessions.specs.Items.{turn};
 ghost use Rattle.ff_sessions.specs.Making.{HasRoomFor, IsOpen, StopsAt};
-ghost use Rattle.ff_sessions.specs.RowStops.{IsCutIn, RowRuns};
+ghost use Rattle.ff_sessions.specs.RowStops.{RowRuns};
 ghost use Rattle.ff_sessions.specs.Stops.{items_at, row_left};
 
 use crate::stop::{Place, Stop};
