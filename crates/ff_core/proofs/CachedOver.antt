@@ -22,7 +22,7 @@ use Rattle.ff_map.specs.PageMap.{mapping_of}
 use Rattle.ff_map.specs.declared.places.Mapping.{Mapping}
 use Rattle.ff_mount.proofs.Sounding.{held_over}
 use Rattle.ff_mount.specs.Held.{held_bytes}
-use Rattle.ff_mount.specs.Over.{HasDirtySlot, IsCacheOver, is_dirty_slot, is_written, slot_bytes}
+use Rattle.ff_mount.specs.Over.{HasDirtySlot, IsCacheOver, is_dirty_slot, is_mapped_or_dirty, slot_bytes}
 use Rattle.ff_cache.specs.Nv.{ways_of}
 use Rattle.ff_store.specs.PageStore.{PageStoreView}
 use Rattle.ff_store.specs.Pages.{page_capacity}
@@ -70,7 +70,7 @@ written_by cells found (Some m) waits is = refl
 written_by cells None None waits is = absurd (cc)
 written_by cells (Some slot) None waits is = dirty_by slot.dirty waits is
 
-written_over : (d : DeviceView) (page : ℕ) → is_written d.store d.cache page ≡ true → is_written_part (parts_of d) page ≡ true
+written_over : (d : DeviceView) (page : ℕ) → is_mapped_or_dirty d.store d.cache page ≡ true → is_written_part (parts_of d) page ≡ true
 written_over d page is =
     let number : PageNo = record { 0 = page } in
     let waits = waits_in d.window.posts page in
@@ -139,7 +139,7 @@ cache_over core arrive d sound down =
       clean = λ page slot is clean. down.device.clean page.0 slot is clean ∙ seen_bytes d.store page;
       waiting = λ p waits. dirty_waiting d p down.device waits;
       few =
-          let part = count_below-part (is_written d.store d.cache) (is_written_part (parts_of d)) g.pages (written_over d) in
+          let part = count_below-part (is_mapped_or_dirty d.store d.cache) (is_written_part (parts_of d)) g.pages (written_over d) in
           let all : count_below (is_written_part (parts_of d)) g.pages ≤ page_capacity d.store.world =
           subst (λ n. count_below (is_written_part (parts_of d)) n ≤ page_capacity d.store.world) seen down.device.room in
           omega (arith, part, all, room);

@@ -24,7 +24,7 @@ use Rattle.ff_mount.proofs.Contents.{content_line}
 use Rattle.ff_mount.proofs.Pages.{way_of_slot}
 use Rattle.ff_mount.proofs.Sounding.{held_over, sound_over}
 use Rattle.ff_mount.specs.Held.{held_bytes, is_dirty_way, is_held, way_of_page}
-use Rattle.ff_mount.specs.Over.{IsCacheOver, is_dirty_slot, is_written as is_written_over, slot_bytes}
+use Rattle.ff_mount.specs.Over.{IsCacheOver, is_dirty_slot, is_mapped_or_dirty, slot_bytes}
 use Rattle.ff_mount.specs.Sound.{AreSound}
 use Rattle.ff_store.proofs.Mounting.{best_mapped}
 use Rattle.ff_store.specs.PageStore.{IsStoreSound, PageStoreView}
@@ -72,7 +72,7 @@ either-way false false = refl
 
 -- a page is written on the device where it is mapped or dirty
 pub written-over : (store : PageStoreView) (cache : CacheView) (g : Geometry) (page : ℕ)
-    → is_written (parts_over store cache g) page ≡ is_written_over store cache page
+    → is_written (parts_over store cache g) page ≡ is_mapped_or_dirty store cache page
 written-over store cache g page =
     let number : PageNo = record { 0 = page } in
     let stored : is_some (stored_in (seen_of store) page) ≡ is_mapped store.world.places number =
@@ -89,7 +89,7 @@ dirty-way slots page (Some slot) is =
 
 -- a page is written where the battery or the flash holds it
 pub written-held : (store : PageStoreView) (cache : CacheView) (page : ℕ) → IsStoreSound store → store.waits ≡ None
-    → is_written_over store cache page ≡ is_held (ways_of cache.slots) store.world.flash.cells page
+    → is_mapped_or_dirty store cache page ≡ is_held (ways_of cache.slots) store.world.flash.cells page
 written-held store cache page sound none =
     ap₂ (λ (a b : Bool). a || b) (sym (dirty-way cache.slots page (held cache.slots page) refl))
     (best_mapped store (record { 0 = page }) sound.always none)
@@ -129,7 +129,7 @@ begun g store cache limits sound map_sound over none =
           over.clean number slot is clean ∙ sym (seen_bytes store number);
       idle = none-pending store.world.flash.cells store.waits none;
       empty = refl;
-      room = (let same = count_below-same (is_written_over store cache) (is_written (parts_over store cache g)) g.pages
+      room = (let same = count_below-same (is_mapped_or_dirty store cache) (is_written (parts_over store cache g)) g.pages
           (λ page. written-over store cache g page) in
           let few = over.few in
           rw (pages, room) (omega arith));

@@ -8,7 +8,7 @@ use Rattle.ff_cache.specs.Cache.{CacheView, fresh_cache}
 use Rattle.ff_cache.specs.Slots.{held}
 use Rattle.ff_cache.specs.declared.slot.Slot.{Slot}
 use Rattle.ff_device.proofs.Rooms.{room_for}
-use Rattle.ff_mount.specs.Over.{IsCacheOver, is_written}
+use Rattle.ff_mount.specs.Over.{IsCacheOver, is_mapped_or_dirty}
 use Rattle.ff_store.proofs.Remounting.{remounted_sizes}
 use Rattle.ff_store.specs.PageStore.{PageStoreView}
 use Rattle.ff_store.specs.Remounted.{IsRemounted}
@@ -32,7 +32,7 @@ over-empty g s cache is fresh none room =
       full = λ page slot found. absurd (none-some slot (sym (absent page) ∙ found));
       clean = λ page slot found clean. absurd (none-some slot (sym (absent page.0) ∙ found));
       waiting = λ p waits. absurd (none-some p (sym none ∙ waits));
-      few = room_for (is_written s cache) g.pages (capacity_of g) room;
+      few = room_for (is_mapped_or_dirty s cache) g.pages (capacity_of g) room;
     }
 
 pub resume_empty : (g : Geometry) (s : PageStoreView) (cache : CacheView) (marks : List ℕ) → IsRemounted g s

@@ -13,7 +13,7 @@ use Rattle.ff_flash.specs.FlashState.{FlashState}
 use Rattle.ff_lines.proofs.PageCounts.{count_below-part}
 use Rattle.ff_mount.proofs.Pages.{way_of_slot}
 use Rattle.ff_mount.specs.Held.{best_of, is_dirty_way, is_held, nv_of, way_of_page}
-use Rattle.ff_mount.specs.Over.{IsCacheOver, is_dirty_slot, is_written}
+use Rattle.ff_mount.specs.Over.{IsCacheOver, is_dirty_slot, is_mapped_or_dirty}
 use Rattle.ff_mount.specs.Sound.{AreSound}
 use Rattle.ff_store.proofs.Mounting.{best_bytes, best_mapped}
 use Rattle.ff_store.specs.Best.{bytes_or_zeros}
@@ -56,7 +56,7 @@ dirty_same (Some slot) = refl
 -- a page is written where it is held
 written_held : (g : Geometry) (nv : NvView) (flash : FlashState) (s : PageStoreView) (cache : CacheView) (page : ℕ)
     → IsStoreOn g flash s → IsFromNv g.sets g.ways nv.slots cache
-    → is_written s cache page ≡ is_held nv.slots flash.cells page
+    → is_mapped_or_dirty s cache page ≡ is_held nv.slots flash.cells page
 written_held g nv flash s cache page on from =
     let number : PageNo = record { 0 = page } in
     let dirty = ap (λ (w : Option NvWay). is_dirty_way w) (way_in g nv cache page (held cache.slots page) from refl)
@@ -81,7 +81,7 @@ over_mounted g nv flash s cache sound on from = record {
       ∙ ap (λ (x : List Cell). bytes_or_zeros (best_of x page.0)) (sym on.cells)
       ∙ best_bytes s page on.sound.always (λ p waits same. none-some p (sym on.none ∙ waits));
   waiting = λ p waits. absurd (none-some p (sym on.none ∙ waits));
-  few = (let part = count_below-part (is_written s cache) (is_held nv.slots flash.cells) g.pages
+  few = (let part = count_below-part (is_mapped_or_dirty s cache) (is_held nv.slots flash.cells) g.pages
       (λ page written. sym (written_held g nv flash s cache page on from) ∙ written) in
       let few = sound.few in omega arith);
 }

@@ -15,7 +15,7 @@ use Rattle.ff_lines.specs.PageSets.{count_below}
 use Rattle.ff_mount.proofs.MountedParts.{over_mounted, same_content}
 use Rattle.ff_mount.proofs.Sounding.{sound_later}
 use Rattle.ff_mount.specs.Held.{best_of, is_dirty_way, is_held, nv_of, way_of_page}
-use Rattle.ff_mount.specs.Mounted.{IsMounted, IsRefused, mount_probes}
+use Rattle.ff_mount.specs.Mounted.{IsMounted, IsMountRefused, mount_probes}
 use Rattle.ff_mount.specs.Reading.{HasStopped}
 use Rattle.ff_mount.specs.Sound.{AreSound}
 use Rattle.ff_mount.specs.Stops.{StopsBy, refused_stop}
@@ -122,7 +122,7 @@ remountable g nv flash sound = record {
 -- a refused mount, whose cache was taken apart again
 pub refused_parts : (g : Geometry) (nv : NvView) (flash up new : FlashState) (cache : CacheView) (marks : List ℕ) (back : NvView)
     (stop : MountStop) → AreSound g nv flash → IsFromNv g.sets g.ways nv.slots cache → marks ≡ nv.marks → up ≡ powered_up flash
-    → back ≡ nv_of cache marks → HasStopped (powered_up up) stop new → IsRefused g nv flash stop back new
+    → back ≡ nv_of cache marks → HasStopped (powered_up up) stop new → IsMountRefused g nv flash stop back new
 refused_parts g nv flash up new cache marks back stop sound from marked turned is stopped =
     let content : back ≡ nv = is ∙ ap (λ (m : List ℕ). nv_of cache m) marked ∙ same_content g nv cache from in
     let over : HasStopped (powered_up flash) stop new =

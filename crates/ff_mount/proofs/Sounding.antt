@@ -19,7 +19,7 @@ use Rattle.ff_lines.proofs.PageCounts.{count_below-part}
 use Rattle.ff_lines.specs.PageSets.{count_below}
 use Rattle.ff_mount.proofs.Pages.{way_of_slot}
 use Rattle.ff_mount.specs.Held.{best_of, held_bytes, is_dirty_way, is_held, nv_of, way_bytes, way_of_page}
-use Rattle.ff_mount.specs.Over.{IsCacheOver, is_dirty_slot, is_written, slot_bytes}
+use Rattle.ff_mount.specs.Over.{IsCacheOver, is_dirty_slot, is_mapped_or_dirty, slot_bytes}
 use Rattle.ff_mount.specs.Sound.{AreSound}
 use Rattle.ff_store.proofs.Mounting.{best_bytes}
 use Rattle.ff_store.specs.Best.{Version, best, bytes_or_zeros, mapped_version}
@@ -109,7 +109,7 @@ written_by false sealed mapped same held = sym (same refl) ∙ held
 
 -- a held page is written
 held_written : (g : Geometry) (s : PageStoreView) (cache : CacheView) (page : ℕ) → IsRecoverable s → IsCacheOver g s cache
-    → is_held (ways_of cache.slots) s.world.flash.cells page ≡ true → is_written s cache page ≡ true
+    → is_held (ways_of cache.slots) s.world.flash.cells page ≡ true → is_mapped_or_dirty s cache page ≡ true
 held_written g s cache page recoverable over holds =
     let dirty = ap (λ (w : Option NvWay). is_dirty_way w) (way_of_slot cache.slots page) ∙ dirty_same (held cache.slots page) in
     let by_slot = ap (λ (b : Bool). b || is_some (best_of s.world.flash.cells page)) (sym dirty) ∙ holds in
@@ -136,7 +136,7 @@ sound_over g s cache marks sound recoverable cache_sound over marked =
           sound.always.safe.sealed_cells;
       covered = subst (λ n. HasCovered n g.per_block s.world.flash.cells) over.blocks
           (subst (λ n. HasCovered (length s.world.table.blocks) n s.world.flash.cells) over.per_block recoverable.covered);
-      few = (let part = count_below-part (is_held (ways_of slots) s.world.flash.cells) (is_written s cache) g.pages
+      few = (let part = count_below-part (is_held (ways_of slots) s.world.flash.cells) (is_mapped_or_dirty s cache) g.pages
           (λ page holds. held_written g s cache page recoverable over holds) in
           let few = over.few in omega arith);
       ways = record {

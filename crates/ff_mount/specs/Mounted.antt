@@ -25,7 +25,7 @@ pub record IsMounted (g : Geometry) (nv : NvView) (flash : FlashState) (store : 
   pub over : IsCacheOver g store cache
 
 -- the same content, and a flash of the same cells whose power was turned on: both are sound
-pub record IsRefused (g : Geometry) (nv : NvView) (flash : FlashState) (stop : MountStop)
+pub record IsMountRefused (g : Geometry) (nv : NvView) (flash : FlashState) (stop : MountStop)
     (new_nv : NvView) (new_flash : FlashState) : Type 0 where
   pub content : new_nv ≡ nv
   pub flash_is : HasStopped (powered_up flash) stop new_flash

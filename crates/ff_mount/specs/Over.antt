@@ -23,8 +23,8 @@ is_dirty_slot None = false
 is_dirty_slot (Some slot) = slot.dirty
 
 -- the page is mapped or has a dirty slot
-abbrev pub is_written : PageStoreView → CacheView → ℕ → Bool
-is_written s cache page =
+abbrev pub is_mapped_or_dirty : PageStoreView → CacheView → ℕ → Bool
+is_mapped_or_dirty s cache page =
     is_dirty_slot (held cache.slots page) || is_mapped s.world.places (record { 0 = page })
 
 -- a dirty slot holds the page
@@ -47,4 +47,4 @@ pub record IsCacheOver (geometry : Geometry) (s : PageStoreView) (cache : CacheV
   pub clean : (page : PageNo) (slot : Slot) → held cache.slots page.0 ≡ Some slot
       → slot.dirty ≡ false → slot.bytes ≡ page_bytes s.world page
   pub waiting : (p : Pending) → s.waits ≡ Some p → HasDirtySlot cache p.page.0
-  pub few : count_below (is_written s cache) geometry.pages ≤ capacity_of geometry
+  pub few : count_below (is_mapped_or_dirty s cache) geometry.pages ≤ capacity_of geometry

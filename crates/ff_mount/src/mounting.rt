@@ -3,7 +3,7 @@ ghost use Rattle.std.specs.Prelude.{◌≡◌, ◌≤◌, ◌^◌, IfErr, IfOk, 
 ghost use Rattle.ff_base.specs.Geometry.{IsWithinLimits};
 ghost use Rattle.ff_flash.specs.FlashState.{powered_up};
 ghost use Rattle.ff_mount.specs.Held.{nv_of};
-ghost use Rattle.ff_mount.specs.Mounted.{IsMounted, IsRefused, mount_probes};
+ghost use Rattle.ff_mount.specs.Mounted.{IsMounted, IsMountRefused, mount_probes};
 ghost use Rattle.ff_mount.specs.Reading.{HasStopped};
 ghost use Rattle.ff_mount.specs.Sound.{AreSound};
 ghost use Rattle.ff_mount.specs.Stops.{StopsBy, refused_stop};
@@ -92,7 +92,7 @@ pub fn mount<F: Flash>(
     requires life { (F.state flash).operations ≤ 2 ^ 62 }
     ensures mounted { IfOk result (λ mounted. IsMounted geometry.now nv (F.state flash)
         mounted.store mounted.cache mounted.marks) }
-    ensures refused { IfErr result (λ back. IsRefused geometry.now nv (F.state flash) back.stop
+    ensures refused { IfErr result (λ back. IsMountRefused geometry.now nv (F.state flash) back.stop
         back.nv (F.state back.flash)) }
     ensures planned { IfSome (F.state flash).plan (λ plan. MatchResult result
         (λ _. first_stop plan (F.state flash).operations (mount_probes geometry.now) ≡ None)
