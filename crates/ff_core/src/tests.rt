@@ -160,14 +160,10 @@ fn a_session_ends_in_its_record(rt: HostRuntime) -> Result<(), Fail> {
     );
     assert_eq!(rt; (core.floor(), *core.geometry()), (1, Geometry::default()));
     let lost = core.power(4);
-    assert_eq!(rt;
-        (lost.account.from_event(), lost.account.events()),
-        (0, 1)
-    );
+    assert_eq!(rt; (lost.account.from_event(), lost.account.events()), (0, 1));
     assert_eq!(rt; lost.account.counts(), &Counts::default());
     assert!(rt;
-        lost
-            .account
+        lost.account
             .log()
             .get(0)
             .is_some_and(|turn| turn.answer == Back::Idle)

@@ -62,7 +62,9 @@ fn sink(alloc: Global, failing_write: u64) -> Result<MemorySink, NoMemory> {
 
 /// How many sessions a text tells of.
 fn sessions_in(text: &str) -> usize {
-    text.lines().filter(|line| line.starts_with("session ")).count()
+    text.lines()
+        .filter(|line| line.starts_with("session "))
+        .count()
 }
 
 #[test]

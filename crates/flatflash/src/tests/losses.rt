@@ -93,9 +93,12 @@ fn reads_after(image: &Image, base: &Image, entries: &History, at: u32) -> bool 
 /// Whether each marked line of a page reads as after these entries.
 fn page_reads_after(image: &Image, base: &Image, entries: &History, page: u32) -> bool {
     let marks = image.marks(PageNo(page));
-    (0..64)
-        .filter(|line| marks >> line & 1 == 1)
-        .all(|line| reads_after(image, base, entries, page * 4096 + line * 64))
+    (0..64).filter(|line| marks >> line & 1 == 1).all(|line| reads_after(
+        image,
+        base,
+        entries,
+        page * 4096 + line * 64,
+    ))
 }
 
 /// Whether each marked line of the image reads as after the entries that were kept.
@@ -130,8 +133,14 @@ fn a_cut_in_each_operation_keeps_what_was_promised(rt: HostRuntime) -> Result<()
     for number in 1..41 {
         for mask in [0, 1, 3] {
             let outcome = outcome_of(rt.alloc(), &cut_at(number, mask))?;
-            assert!(rt; matches!(outcome.status, 0 | 7), "cut at {number} with mask {mask}");
-            assert!(rt; are_good(rt.alloc(), &outcome.sessions)?, "cut at {number} with mask {mask}");
+            assert!(rt;
+                matches!(outcome.status, 0 | 7),
+                "cut at {number} with mask {mask}"
+            );
+            assert!(rt;
+                are_good(rt.alloc(), &outcome.sessions)?,
+                "cut at {number} with mask {mask}"
+            );
         }
     }
     Ok(())
@@ -142,7 +151,10 @@ fn a_fault_of_each_operation_keeps_what_was_promised(rt: HostRuntime) -> Result<
     for number in 1..41 {
         let outcome = outcome_of(rt.alloc(), &failure_at(number))?;
         assert!(rt; matches!(outcome.status, 0 | 7), "fault at {number}");
-        assert!(rt; are_good(rt.alloc(), &outcome.sessions)?, "fault at {number}");
+        assert!(rt;
+            are_good(rt.alloc(), &outcome.sessions)?,
+            "fault at {number}"
+        );
     }
     Ok(())
 }

@@ -46,7 +46,9 @@ fn put_rows(input: &mut Vec<u8>, record: u32) -> Result<(), AllocError> {
 }
 
 fn input(alloc: Global) -> Result<Vec<u8>, AllocError> {
-    let mut input = b"---\ncaller,op,a,b\n0,mark,0,\n0,mark,1,\n0,mark,2,\n0,mark,3,\n".to_vec(alloc)?;
+    let mut input = b"---\ncaller,op,a,b\n0,mark,0,\n0,mark,1,\n0,mark,2,\n0,mark,3,\n".to_vec(
+        alloc,
+    )?;
     for record in 1..=RECORDS {
         put_rows(&mut input, record)?;
     }
@@ -97,7 +99,10 @@ fn a_log_finds_its_records_after_two_losses_of_power(rt: HostRuntime) -> Result<
     let outcome = call(alloc, "flatflash schedule", &input(alloc)?, 0, &mut sink)?;
     assert_eq!(rt; (outcome.status, outcome.sessions.len()), (0, 3));
     for (session, (kept, device)) in [(115, 105), (51, 50), (50, 45)].into_iter().enumerate() {
-        assert!(rt; has(sink.written(), &ending(alloc, session, kept)?), "session {session}");
+        assert!(rt;
+            has(sink.written(), &ending(alloc, session, kept)?),
+            "session {session}"
+        );
         assert_eq!(rt; outcome.sessions[session].account.counts().device, device);
     }
     Ok(())
