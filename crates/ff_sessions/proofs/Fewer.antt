@@ -1,11 +1,11 @@
 -- How many losses of power are left, before a session and behind one.
-use Rattle.std.proofs.Common.{◌≡◌, ◌+◌, ◌<◌, ◌≤◌, ℕ, zero, suc, Bool, true, false, cond, List, [], ◌∷◌, ◌++◌, length, inl, inr, refl, sym, ap, ◌∙◌, arith, length-append}
+use Rattle.std.proofs.Common.{◌≡◌, ◌+◌, ◌<◌, ◌≤◌, ℕ, zero, suc, Bool, true, false, cond, List, [], ◌∷◌, ◌++◌, length, drop, inl, inr, refl, sym, ap, ◌∙◌, append_assoc, arith, length-append}
 use Rattle.std.specs.Prelude.{◌==◌, Option, Some, None, count_by, is_some, map, nat_lt, option_map, replicate, sum_by}
 use Rattle.std.specs.List.{flat_map}
-use Rattle.std.proofs.lemmas.Bool.{cases_Bool, eqb-true, le-ltb, lt-ltb}
-use Rattle.std.proofs.lemmas.List.{length-replicate}
+use Rattle.std.proofs.lemmas.Bool.{cases_Bool, eqb-true, le-ltb, lt-ltb, ltb-true}
+use Rattle.std.proofs.lemmas.List.{length-map, length-replicate}
 use Rattle.std.proofs.lemmas.List.Concat.{flat_map-cons}
-use Rattle.std.proofs.lemmas.List.Sums.{count_by-le-length, sum_by-append, sum_by-cons, sum_by-le-sum_by}
+use Rattle.std.proofs.lemmas.List.Sums.{count_by-le-length, sum_by-append, sum_by-cons, sum_by-le-sum_by, sum_by-take-drop}
 use Rattle.ff_flash.specs.FlashState.{FlashState}
 use Rattle.ff_flash.specs.Plans.{Planned, cut_at, cut_numbers}
 use Rattle.ff_flash.specs.SimFlash.{arrive_of_cut, told_plan}
@@ -142,3 +142,7 @@ items_few (row ∷ rows) =
     let size = ap length items ∙ length-append (row_items row) (items_of rows) in
     let turns : turns_asked (row ∷ rows) ≡ turns_in_row row + turns_asked rows = sum_by-cons turns_in_row row rows in
     omega arith
+
+-- the rows from one on ask for no more turns than all
+pub turns_left : (rows : List Row) (row : ℕ) → turns_asked (drop row rows) ≤ turns_asked rows
+turns_left rows row = let both = sum_by-take-drop turns_in_row rows row in omega arith

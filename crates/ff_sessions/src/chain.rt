@@ -137,7 +137,7 @@ pub fn run<T: Tune + Drop, E: Pick + Drop>(
         core,
         at: Place { row: 0, made: 0 },
     };
-    for _session in 0..MOST_SESSIONS {
+    for _ in 0..MOST_SESSIONS {
         let Step { session, next } = next_session(alloc, running, rows, &geometry)?;
         sessions.push(session)?;
         match next {
