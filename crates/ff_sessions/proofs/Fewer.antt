@@ -1,11 +1,11 @@
 -- How many losses of power are left, before a session and behind one.
-use Rattle.std.proofs.Common.{◌≡◌, ◌+◌, ◌<◌, ◌≤◌, ℕ, zero, suc, Bool, true, false, cond, List, [], ◌∷◌, ◌++◌, length, drop, inl, inr, refl, sym, ap, ◌∙◌, append_assoc, arith, length-append}
+use Rattle.std.proofs.Common.{◌≡◌, ◌+◌, ◌<◌, ◌≤◌, ℕ, zero, suc, Bool, true, false, cond, List, [], ◌∷◌, ◌++◌, length, drop, take, inl, inr, refl, sym, ap, ◌∙◌, append_assoc, arith, length-append}
 use Rattle.std.specs.Prelude.{◌==◌, Option, Some, None, count_by, is_some, map, nat_lt, option_map, replicate, sum_by}
 use Rattle.std.specs.List.{flat_map}
 use Rattle.std.proofs.lemmas.Bool.{cases_Bool, eqb-true, le-ltb, lt-ltb, ltb-true}
 use Rattle.std.proofs.lemmas.List.{length-map, length-replicate}
 use Rattle.std.proofs.lemmas.List.Concat.{flat_map-cons}
-use Rattle.std.proofs.lemmas.List.Sums.{count_by-le-length, sum_by-append, sum_by-cons, sum_by-le-sum_by, sum_by-take-drop}
+use Rattle.std.proofs.lemmas.List.Sums.{count_by-le-length, sum_by-append, sum_by-cons, sum_by-le-sum_by, sum_by-take-drop, sum_by-take-le}
 use Rattle.ff_flash.specs.FlashState.{FlashState}
 use Rattle.ff_flash.specs.Plans.{Planned, cut_at, cut_numbers}
 use Rattle.ff_flash.specs.SimFlash.{arrive_of_cut, told_plan}
@@ -115,7 +115,7 @@ losses_of (row ∷ rows) =
 cuts_counted : (operations : ℕ) (cuts : List CutAt) → count_by (λ at. nat_lt operations at) (cut_numbers cuts) ≤ length cuts
 cuts_counted operations cuts =
     let most = count_by-le-length (λ at. nat_lt operations at) (cut_numbers cuts) in
-    let size = length-map (λ (cut : CutAt). cut.at) cuts in
+    let size = length-map cuts (λ (cut : CutAt). cut.at) in
     omega arith
 
 -- before the first session: the rows of power and the cuts
@@ -143,6 +143,9 @@ items_few (row ∷ rows) =
     let turns : turns_asked (row ∷ rows) ≡ turns_in_row row + turns_asked rows = sum_by-cons turns_in_row row rows in
     omega arith
 
--- the rows from one on ask for no more turns than all
-pub turns_left : (rows : List Row) (row : ℕ) → turns_asked (drop row rows) ≤ turns_asked rows
-turns_left rows row = let both = sum_by-take-drop turns_in_row rows row in omega arith
+-- rows among these ask for no more turns than all
+pub turns_left : (rows : List Row) (row count : ℕ) → turns_asked (take count (drop row rows)) ≤ turns_asked rows
+turns_left rows row count =
+    let part = sum_by-take-le turns_in_row (drop row rows) count in
+    let both = sum_by-take-drop turns_in_row rows row in
+    omega arith

@@ -13,7 +13,7 @@ pub follow_more : (setup : Setup) (start : Start) (items : List Item) (sessions 
     (session : Session) → Follow setup start items sessions next middle → IsNextSession setup next session middle left
     → session.stop ≡ None → Follow setup start items (sessions ++ session ∷ []) (start_after setup session) left
 follow_more setup start items [] next middle left session (start_is, items_are) is imaged =
-    (left, rw (start_is, items_are) is, imaged, refl, refl)
+    (left, rw (start_is, items_are) is, imaged, (refl, refl))
 follow_more setup start items (first ∷ later) next middle left session (between, is_first, first_imaged, rest) is imaged =
     (between, is_first, first_imaged, follow_more setup (start_after setup first) between later next middle left session rest is imaged)
 

@@ -1,6 +1,9 @@
 -- A run of sessions, one step after the other.
 use Rattle.std.proofs.Common.{◌≡◌, ◌+◌, ◌*◌, ◌^◌, ◌≤◌, ℕ, List, [], ◌∷◌, ◌++◌, length, refl, sym, ap, ◌∙◌, subst, arith, length-append}
-use Rattle.std.specs.Prelude.{Option, Some, None, IfNone, IfSome, IsSome, IsSomeAnd}
+use Rattle.std.specs.Prelude.{Option, Some, None, IfNone, IfOk, IfSome, IsSome, Result}
+use Rattle.std.proofs.lemmas.Result.{IfOk-weaker}
+use Rattle.ff_base.specs.declared.geometry.Geometry.{Geometry}
+use Rattle.ff_base.specs.declared.memory.NoMemory.{NoMemory}
 use Rattle.std.specs.Prelude.{⊤}
 use Rattle.std.proofs.lemmas.Option.{IfSome_then, MatchOption-at_none, MatchOption-at_some}
 use Rattle.ff_mount.specs.declared.stop.MountStop.{MountStop}
@@ -53,6 +56,18 @@ step_of setup start rows running stop lost closed step may ran closes gone = rec
       (λ later opens. goes_on setup start rows running stop lost closed later may ran closes opens));
   ends = rw gone.session (ends_of setup rows stop lost closed step.next closes gone.ends);
 }
+
+-- the same of what a step answers
+pub ok_step : {T E : Type 0} (rows : List Row) (running : Open T E) (geometry : Geometry) (stop : Stop) (lost : Lost FlashState T E)
+    (closed : Closed T E) (result : Result (Step T E) NoMemory) → geometry ≡ running.core.geometry
+    → MayRun (setup_in running.core) (start_of running.core) rows running
+    → IsRun (setup_in running.core) (start_of running.core) rows running.at stop lost → IsClosed geometry lost closed
+    → IfOk result (IsGoneOn geometry rows closed stop)
+    → IfOk result (IsStep (setup_in running.core) (start_of running.core) rows running.at)
+ok_step rows running geometry stop lost closed result same may ran closes gone =
+    IfOk-weaker result (IsGoneOn geometry rows closed stop) (IsStep (setup_in running.core) (start_of running.core) rows running.at)
+    (λ step goes. step_of (setup_in running.core) (start_of running.core) rows running stop lost closed step may ran
+    (rw same at closes) (rw same at goes)) gone
 
 -- the setup of a core that has begun so
 setup_is : {T E : Type 0} (setup : Setup) (start : Start) (core : CoreView T E) → IsBegun setup start core → setup_in core ≡ setup

@@ -1,6 +1,6 @@
 -- A session of a run, from what it left and how it was closed.
 use Rattle.std.proofs.Common.{◌≡◌, ◌+◌, ◌*◌, ◌^◌, ◌<◌, ◌≤◌, ℕ, zero, suc, List, [], ◌∷◌, ◌++◌, length, drop, refl, sym, ap, ◌∙◌, subst, append_assoc, arith, length-append}
-use Rattle.std.specs.Prelude.{Option, Some, None, Result, IfOk, IfNone, IfSome, IsSome, IsSomeAnd, unwrap_or}
+use Rattle.std.specs.Prelude.{Option, Some, None, Result, IfOk, IfNone, IfSome, IsSome, IsSomeAnd, ◌-◌, replicate, unwrap_or}
 use Rattle.std.specs.List.{flat_map}
 use Rattle.std.proofs.lemmas.Option.{none-some, same_Some}
 use Rattle.std.proofs.lemmas.Result.{IfOk-weaker}
@@ -25,7 +25,7 @@ use Rattle.ff_trace.specs.declared.row.Row.TheVariants.{Call, Turns, Power}
 use Rattle.ff_sessions.specs.Begun.{IsBegun, IsRun, resumed_start}
 use Rattle.ff_sessions.specs.Closing.{IsClosed, IsSessionOf}
 use Rattle.ff_sessions.specs.Following.{GoesOn, IsGoneOn, IsOpened, IsStep, MayFollow, MayRun, most_between, place_after, stops_left}
-use Rattle.ff_sessions.specs.Items.{Item, items_of, loss, over, row_items}
+use Rattle.ff_sessions.specs.Items.{Item, items_of, over, row_items, turn}
 use Rattle.ff_sessions.specs.Making.{HasRoomFor, most_operations}
 use Rattle.ff_sessions.specs.Remounts.{IsRemounted}
 use Rattle.ff_sessions.specs.Sessions.{IsGood, IsNextSession, Setup, arrive_by, ending_items, image_unless, remount_operations, setup_with, start_after}
@@ -100,13 +100,13 @@ both_some None p q f = tt
 both_some (Some m) p q f = f m p q
 
 pub parts_of : {T E : Type 0} (setup : Setup) (start : Start) (rows : List Row) (at : Place) (stop : Stop) (lost : Lost FlashState T E)
-    (closed : Closed T E) → IsRun setup start rows at stop lost → IsClosed setup.geometry lost closed
-    → IfSome closed.mounted (λ m. MayFollow setup.geometry closed.session m.store m.cache m.marks)
-parts_of setup start rows at stop lost closed ran closes =
+    (geometry : Geometry) (closed : Closed T E) → IsRun setup start rows at stop lost → IsClosed geometry lost closed
+    → IfSome closed.mounted (λ m. MayFollow geometry closed.session m.store m.cache m.marks)
+parts_of setup start rows at stop lost geometry closed ran closes =
     let account = ap (λ (a : RecordView). a.events) closes.session.account in
     let not_past = ran.account.not_past in
     both_some closed.mounted closes.mounted closes.runs_on (λ m mounted none.
-    may_follow setup.geometry lost closed.session m.store m.cache m.marks closes.session none mounted (omega arith))
+    may_follow geometry lost closed.session m.store m.cache m.marks closes.session none mounted (omega arith))
 
 -- it starts where the session behind this one does
 start_same : {T E : Type 0} (setup : Setup) (lost : Lost FlashState T E) (session : Session) (store : PageStoreView)
@@ -129,7 +129,8 @@ setup_same setup start rows at stop lost store cache marks image floor ran mount
 -- no turn of the first row was made
 row_whole : (row : Row) → row_left 0 row ≡ row_items row
 row_whole (Call caller op) = refl
-row_whole (Turns kind count) = refl
+row_whole (Turns kind count) =
+    let all : count - 0 ≡ count = omega arith in ap (λ (n : ℕ). replicate n (turn kind)) all
 row_whole (Power arrive) = refl
 
 pub items_whole : (rows : List Row) → items_from 0 rows ≡ items_of rows

@@ -40,8 +40,9 @@ struct Step<T: Tune, E: Pick> {
     next: Option<Open<T, E>>,
 }
 
-// Where the rows go on behind a stop.
-fn behind(stop: Stop) -> Option<Place>
+// Where so many rows go on behind a stop.
+fn behind(stop: Stop, count: usize) -> Option<Place>
+    requires { IsStopWithin count stop }
     ensures { result ≡ place_after stop }
 {
     match stop {
@@ -55,6 +56,7 @@ fn behind(stop: Stop) -> Option<Place>
 }
 
 // Opens the session behind one that is over, where that has an image and rows are left.
+#[tactic(auto, using(crate::proofs::Fewer::turns_left))]
 fn go_on<T: Tune + Drop, E: Pick + Drop>(
     alloc: Global,
     closed: Closed<T, E>,
@@ -76,7 +78,7 @@ fn go_on<T: Tune + Drop, E: Pick + Drop>(
         tuner,
         picker,
     } = closed;
-    let (Some(mounted), Some(at)) = (mounted, behind(stop)) else {
+    let (Some(mounted), Some(at)) = (mounted, behind(stop, rows.len())) else {
         return Ok(Step {
             session,
             next: None,
