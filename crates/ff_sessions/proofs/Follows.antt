@@ -1,5 +1,5 @@
 -- Sessions that follow one another, with one session more.
-use Rattle.std.proofs.Common.{◌≡◌, ◌+◌, ℕ, List, [], ◌∷◌, ◌++◌, refl, sym, ap, ◌∙◌, subst}
+use Rattle.std.proofs.Common.{◌≡◌, ◌+◌, List, [], ◌∷◌, ◌++◌, refl, sym, subst}
 use Rattle.std.specs.Prelude.{Option, Some, None}
 use Rattle.ff_core.specs.Account.{Start}
 use Rattle.ff_mount.specs.declared.stop.MountStop.{MountStop}
@@ -31,7 +31,9 @@ pub follow_last : (setup : Setup) (start : Start) (items : List Item) (sessions 
     → (session.stop ≡ None → left ≡ []) → AreSessions setup start items (sessions ++ session ∷ [])
 follow_last setup start items [] next middle left session (start_is, items_are) is ends =
     (left, rw (start_is, items_are) is, followed_last session.stop (left ≡ []) ends)
-follow_last setup start items (first ∷ later) next middle left session (between, is_first, first_imaged, rest) is ends =
-    (between, is_first,
-      followed_on first.stop (later ++ session ∷ []) (AreSessions setup (start_after setup first) between (later ++ session ∷ []))
-      first_imaged (follow_last setup (start_after setup first) between later next middle left session rest is ends))
+follow_last setup start items (first ∷ later) next middle left session (between, is_first, first_imaged, rest) is ends = (
+  between,
+  is_first,
+  followed_on first.stop (later ++ session ∷ []) (AreSessions setup (start_after setup first) between (later ++ session ∷ []))
+      first_imaged (follow_last setup (start_after setup first) between later next middle left session rest is ends),
+)

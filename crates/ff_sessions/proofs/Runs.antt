@@ -1,38 +1,36 @@
 -- A run of sessions, one step after the other.
 use Rattle.std.proofs.Common.{◌≡◌, ◌+◌, ◌*◌, ◌^◌, ◌≤◌, ℕ, List, [], ◌∷◌, ◌++◌, length, refl, sym, ap, ◌∙◌, subst, arith, length-append}
-use Rattle.std.specs.Prelude.{Option, Some, None, IfNone, IfOk, IfSome, IsSome, Result}
+use Rattle.std.specs.Prelude.{Option, Some, None, IfNone, IfOk, IsSome, Result, ⊤}
+use Rattle.std.proofs.lemmas.Option.{IfSome_then, MatchOption-at_none, MatchOption-at_some}
 use Rattle.std.proofs.lemmas.Result.{IfOk-weaker}
 use Rattle.ff_base.specs.declared.geometry.Geometry.{Geometry}
 use Rattle.ff_base.specs.declared.memory.NoMemory.{NoMemory}
-use Rattle.std.specs.Prelude.{⊤}
-use Rattle.std.proofs.lemmas.Option.{IfSome_then, MatchOption-at_none, MatchOption-at_some}
-use Rattle.ff_mount.specs.declared.stop.MountStop.{MountStop}
 use Rattle.ff_core.specs.Account.{Start, start_of}
 use Rattle.ff_core.specs.Core.{CoreView}
 use Rattle.ff_core.specs.Hierarchy.{flash_under}
 use Rattle.ff_core.specs.declared.core_state.losing.Lost.{Lost}
 use Rattle.ff_flash.specs.FlashState.{FlashState}
-use Rattle.ff_flash.specs.Plans.{Planned}
+use Rattle.ff_mount.specs.declared.stop.MountStop.{MountStop}
 use Rattle.ff_trace.specs.Tally.{most_losses}
 use Rattle.ff_trace.specs.Within.{AreWithin}
 use Rattle.ff_trace.specs.declared.row.Row.{Row}
 use Rattle.ff_sessions.specs.Begun.{IsBegun, IsRun, setup_in}
 use Rattle.ff_sessions.specs.Closing.{IsClosed}
-use Rattle.ff_sessions.specs.Following.{Follow, GoesOn, IsGoneOn, IsOpened, IsRunning, IsStep, MayRun, most_between, place_after, stops_left}
+use Rattle.ff_sessions.specs.Following.{Follow, GoesOn, IsGoneOn, IsRunning, IsStep, MayRun, most_between, place_after, stops_left}
 use Rattle.ff_sessions.specs.Items.{Item, items_of}
 use Rattle.ff_sessions.specs.Making.{HasRoomFor, most_operations}
-use Rattle.ff_sessions.specs.Sessions.{AreSessionsOf, IsNextSession, Setup, first_start, start_after}
+use Rattle.ff_sessions.specs.Sessions.{AreSessionsOf, Setup, first_start, start_after}
 use Rattle.ff_sessions.specs.Stops.{items_at, items_behind}
 use Rattle.ff_sessions.specs.declared.chain.Open.{Open}
 use Rattle.ff_sessions.specs.declared.chain.Step.{Step}
 use Rattle.ff_sessions.specs.declared.closing.Closed.{Closed}
 use Rattle.ff_sessions.specs.declared.session.Session.{Session}
-use Rattle.ff_sessions.specs.declared.stop.Place.{Place}
 use Rattle.ff_sessions.specs.declared.stop.Stop.{Stop}
 use Rattle.ff_sessions.proofs.Fewer.{items_few, stops_first}
 use Rattle.ff_sessions.proofs.Follows.{follow_last, follow_more}
 use Rattle.ff_sessions.proofs.Steps.{goes_on, items_none, items_whole, next_of, told_is}
 
+-- what has no stop is mounted
 is_mounted : {M : Type 0} (mounted : Option M) (stop : Option MountStop) → IfNone mounted (IsSome stop) → stop ≡ None → IsSome mounted
 is_mounted None stop stopped none = absurd (let some = rw none at stopped in cc)
 is_mounted (Some m) stop stopped none = refl
@@ -145,3 +143,10 @@ runs_first setup rows core begun room within =
       };
       few = subst (λ (items : List Item). 0 + stops_left 0 setup.plan items ≤ 16) whole (omega arith);
     }
+
+-- one session more is over
+pub count_more : (sessions pushed : List Session) (session : Session) (count : ℕ) → pushed ≡ sessions ++ session ∷ []
+    → length sessions ≡ count → length pushed ≡ count + 1
+count_more sessions pushed session count is size =
+    let all = ap length is ∙ length-append sessions (session ∷ []) in
+    omega arith

@@ -1,37 +1,33 @@
 -- A session of a run, from what it left and how it was closed.
-use Rattle.std.proofs.Common.{◌≡◌, ◌+◌, ◌*◌, ◌^◌, ◌<◌, ◌≤◌, ℕ, zero, suc, List, [], ◌∷◌, ◌++◌, length, drop, refl, sym, ap, ◌∙◌, subst, append_assoc, arith, length-append}
-use Rattle.std.specs.Prelude.{Option, Some, None, Result, IfOk, IfNone, IfSome, IsSome, IsSomeAnd, ◌-◌, replicate, unwrap_or}
+use Rattle.std.proofs.Common.{◌≡◌, ◌+◌, ◌*◌, ◌^◌, ◌≤◌, ℕ, List, [], ◌∷◌, ◌++◌, length, drop, refl, sym, ap, ◌∙◌, subst, append_assoc, arith, length-append}
+use Rattle.std.specs.Prelude.{◌-◌, Option, Some, None, IfSome, IsSomeAnd, replicate, unwrap_or}
 use Rattle.std.specs.List.{flat_map}
 use Rattle.std.proofs.lemmas.Option.{none-some, same_Some}
-use Rattle.std.proofs.lemmas.Result.{IfOk-weaker}
 use Rattle.ff_base.specs.Geometry.{IsWithinLimits}
 use Rattle.ff_base.specs.declared.geometry.Geometry.{Geometry}
 use Rattle.ff_cache.specs.Cache.{CacheView}
 use Rattle.ff_cache.specs.Nv.{NvView}
-use Rattle.ff_core.specs.Account.{IsAccountOf, Start}
-use Rattle.ff_core.specs.Losing.{IsLossOf}
+use Rattle.ff_core.specs.Account.{Start}
 use Rattle.ff_core.specs.Record.{RecordView}
 use Rattle.ff_core.specs.declared.core_state.losing.Lost.{Lost}
 use Rattle.ff_flash.specs.FlashState.{FlashState}
-use Rattle.ff_flash.specs.Plans.{Planned, listed_count}
+use Rattle.ff_flash.specs.Plans.{Planned}
 use Rattle.ff_flash.specs.SimFlash.{arrive_of_cut, told_plan}
 use Rattle.ff_lines.proofs.PageCounts.{count_below-most}
 use Rattle.ff_model.specs.Image.{Content}
 use Rattle.ff_mount.specs.Held.{held_content, image_reads, is_read}
-use Rattle.ff_mount.specs.declared.stop.MountStop.{MountStop}
 use Rattle.ff_store.specs.PageStore.{PageStoreView}
 use Rattle.ff_trace.specs.declared.row.Row.{Row}
 use Rattle.ff_trace.specs.declared.row.Row.TheVariants.{Call, Turns, Power}
 use Rattle.ff_sessions.specs.Begun.{IsBegun, IsRun, resumed_start}
 use Rattle.ff_sessions.specs.Closing.{IsClosed, IsSessionOf}
-use Rattle.ff_sessions.specs.Following.{GoesOn, IsGoneOn, IsOpened, IsStep, MayFollow, MayRun, most_between, place_after, stops_left}
+use Rattle.ff_sessions.specs.Following.{GoesOn, IsOpened, MayFollow, MayRun, most_between, place_after, stops_left}
 use Rattle.ff_sessions.specs.Items.{Item, items_of, over, row_items, turn}
-use Rattle.ff_sessions.specs.Making.{HasRoomFor, most_operations}
+use Rattle.ff_sessions.specs.Making.{most_operations}
 use Rattle.ff_sessions.specs.Remounts.{IsRemounted}
-use Rattle.ff_sessions.specs.Sessions.{IsGood, IsNextSession, Setup, arrive_by, ending_items, image_unless, remount_operations, setup_with, start_after}
-use Rattle.ff_sessions.specs.Stops.{IsStopWithin, ending_of, items_at, items_behind, items_from, place_behind, row_left}
+use Rattle.ff_sessions.specs.Sessions.{IsGood, IsNextSession, Setup, arrive_by, ending_items, remount_operations, setup_with, start_after}
+use Rattle.ff_sessions.specs.Stops.{IsStopWithin, ending_of, items_at, items_behind, items_from, row_left}
 use Rattle.ff_sessions.specs.declared.chain.Open.{Open}
-use Rattle.ff_sessions.specs.declared.chain.Step.{Step}
 use Rattle.ff_sessions.specs.declared.closing.Closed.{Closed}
 use Rattle.ff_sessions.specs.declared.session.Session.{Session}
 use Rattle.ff_sessions.specs.declared.stop.Place.{Place}
@@ -76,7 +72,7 @@ next_of setup start rows at stop lost session ran of = record {
 }
 
 -- a mount and an image take few operations
-pub remount_few : (geometry : Geometry) (nv : NvView) (flash : FlashState) → IsWithinLimits geometry
+remount_few : (geometry : Geometry) (nv : NvView) (flash : FlashState) → IsWithinLimits geometry
     → remount_operations geometry nv flash ≤ 2 ^ 14 + 2 ^ 16
 remount_few geometry nv flash limits =
     let probes = limits.flash_pages.high in
@@ -86,7 +82,7 @@ remount_few geometry nv flash limits =
     omega arith
 
 -- a session may begin over what a remount of one that is over found
-pub may_follow : {T E : Type 0} (geometry : Geometry) (lost : Lost FlashState T E) (session : Session) (store : PageStoreView)
+may_follow : {T E : Type 0} (geometry : Geometry) (lost : Lost FlashState T E) (session : Session) (store : PageStoreView)
     (cache : CacheView) (marks : List ℕ) → IsSessionOf geometry lost session → session.stop ≡ None
     → IsRemounted geometry lost.nv lost.flash store cache marks (held_content geometry.pages lost.nv lost.flash.cells)
     → session.account.events ≤ 2 ^ 62 → MayFollow geometry session store cache marks
@@ -95,10 +91,12 @@ may_follow geometry lost session store cache marks of none mounted not_past = re
   resumes = mounted.resumes session.account.events not_past;
 }
 
+-- what both say of a value
 both_some : {M : Type 0} {P Q R : M → Type 0} (o : Option M) → IfSome o P → IfSome o Q → ((m : M) → P m → Q m → R m) → IfSome o R
 both_some None p q f = tt
 both_some (Some m) p q f = f m p q
 
+-- a session may begin over the mounted parts, where there are any
 pub parts_of : {T E : Type 0} (setup : Setup) (start : Start) (rows : List Row) (at : Place) (stop : Stop) (lost : Lost FlashState T E)
     (geometry : Geometry) (closed : Closed T E) → IsRun setup start rows at stop lost → IsClosed geometry lost closed
     → IfSome closed.mounted (λ m. MayFollow geometry closed.session m.store m.cache m.marks)
@@ -117,6 +115,7 @@ start_same : {T E : Type 0} (setup : Setup) (lost : Lost FlashState T E) (sessio
 start_same setup lost session store cache marks image of mounted =
     rw (mounted.flash_is, of.nv, of.flash) refl
 
+-- by the same setup
 setup_same : {T E : Type 0} (setup : Setup) (start : Start) (rows : List Row) (at : Place) (stop : Stop) (lost : Lost FlashState T E)
     (store : PageStoreView) (cache : CacheView) (marks : List ℕ) (image : Content) (floor : ℕ) → IsRun setup start rows at stop lost
     → IsRemounted setup.geometry lost.nv lost.flash store cache marks image → floor ≡ lost.tuner.floor
@@ -133,6 +132,7 @@ row_whole (Turns kind count) =
     let all : count - 0 ≡ count = omega arith in ap (λ (n : ℕ). replicate n (turn kind)) all
 row_whole (Power arrive) = refl
 
+-- nor of any: the items are all
 pub items_whole : (rows : List Row) → items_from 0 rows ≡ items_of rows
 items_whole [] = refl
 items_whole (row ∷ rows) =
@@ -150,9 +150,10 @@ items_on rows stops.End place is = absurd (none-some place is)
 -- where they don't, none is left
 pub items_none : (rows : List Row) (stop : Stop) → place_after stop ≡ None → items_behind rows stop ≡ []
 items_none rows (stops.Cut at) is = absurd (none-some at (sym is))
-items_none rows (stops.Power row arrive) is = absurd (none-some (place_behind (stops.Power row arrive)) (sym is))
+items_none rows (stops.Power row arrive) is = absurd (none-some (record { row = row + 1; made = 0 }) (sym is))
 items_none rows stops.End is = refl
 
+-- where the rows go on is among them, or behind the last
 place_within : (count : ℕ) (stop : Stop) (place : Place) → IsStopWithin count stop → place_after stop ≡ Some place
     → place.row ≤ count
 place_within count (stops.Cut at) place within is =
@@ -186,23 +187,14 @@ taken_few setup start rows at stop lost ran =
     let behind = length-append ending left in
     omega arith
 
--- the life that is left for a remount
-pub life_closed : {T E : Type 0} (setup : Setup) (start : Start) (rows : List Row) (running : Open T E) (stop : Stop)
-    (lost : Lost FlashState T E) → MayRun setup start rows running → IsRun setup start rows running.at stop lost
-    → lost.flash.operations ≤ 2 ^ 61
-life_closed setup start rows running stop lost may ran =
-    let few = taken_few setup start rows running.at stop lost ran in
-    let most = ran.most in
-    let life = may.life in
-    omega arith
-
--- and for the session behind
+-- the life that is left for the session behind
 life_left : (start new operations remount work left items stops stops_new : ℕ) → new ≡ operations + remount
     → operations ≤ start + most_operations * (work + 1) → remount ≤ 2 ^ 14 + 2 ^ 16 → work + left ≤ items → stops_new + 1 ≤ stops
     → start + most_operations * items + most_between * (stops + 1) ≤ 2 ^ 61
     → new + most_operations * left + most_between * (stops_new + 1) ≤ 2 ^ 61
 life_left start new operations remount work left items stops stops_new is most few taken fewer life = omega arith
 
+-- a value, with what is known of it
 some_of : {M R : Type 0} {P Q : M → Type 0} (o : Option M) → IsSomeAnd o Q → IfSome o P → ((m : M) → P m → Q m → R) → R
 some_of None some p f = absurd some
 some_of (Some m) some p f = f m p some

@@ -1,5 +1,5 @@
 -- How far a run has come by whole sessions.
-use Rattle.std.specs.Prelude.{ℕ, ◌+◌, ◌*◌, ◌^◌, ◌<◌, ◌≤◌, ◌≡◌, nat_lt, Bool, true, false, List, [], ◌∷◌, length, count_by, Option, None, Some, IfNone, IfSome, IsSome, IsSomeAnd}
+use Rattle.std.specs.Prelude.{ℕ, ◌+◌, ◌*◌, ◌^◌, ◌≤◌, ◌≡◌, nat_lt, Bool, true, false, List, [], ◌∷◌, length, count_by, Option, None, Some, IfNone, IfSome, IsSome, IsSomeAnd}
 use Rattle.ff_base.specs.declared.geometry.Geometry.{Geometry}
 use Rattle.ff_cache.specs.Cache.{CacheView}
 use Rattle.ff_core.specs.Account.{Start}
@@ -100,7 +100,7 @@ pub record IsOpened {T E : Type 0} (geometry : Geometry) (rows : List Row) (clos
   pub place : place_after stop ≡ Some running.at
   pub begun : IsSomeAnd closed.mounted (λ m. (base : Content) → closed.session.image ≡ Some base
       → IsBegun (setup_with geometry (told_plan m.store.world.flash) closed.tuner.floor)
-          (resumed_start base closed.session.account.events m.store.world.flash) running.core)
+      (resumed_start base closed.session.account.events m.store.world.flash) running.core)
   pub room : HasRoomFor running.core (items_at rows running.at)
 
 -- the session that is over was kept, and the next one is open, or none where nothing is mounted or no rows are left
