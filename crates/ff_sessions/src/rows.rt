@@ -8,7 +8,7 @@ ghost use Rattle.ff_trace.specs.Within.{IsOfCaller};
 ghost use Rattle.ff_trace.specs.declared.row.Row.TheVariants as rows;
 ghost use Rattle.ff_sessions.specs.Items.{turn};
 ghost use Rattle.ff_sessions.specs.Making.{HasRoomFor, IsOpen, StopsAt};
-ghost use Rattle.ff_sessions.specs.RowStops.{IsCutIn, RowRuns};
+ghost use Rattle.ff_sessions.specs.RowStops.{RowRuns};
 ghost use Rattle.ff_sessions.specs.Stops.{items_at, row_left};
 
 use crate::stop::{Place, Stop};
@@ -93,6 +93,7 @@ fn make_row<F: Flash, T: Tune, E: Pick>(
     }
 }
 
+#[tactic(auto, using(crate::proofs::Numbers::few_of))]
 fn make_call<F: Flash, T: Tune, E: Pick>(
     core: &mut Core<F, T, E>,
     numbers: &mut [u32],

@@ -1,13 +1,16 @@
 // Runs one session: its rows, up to the loss of power that ends it.
-ghost use Rattle.std.specs.Prelude.{◌≤◌, All, length};
+ghost use Rattle.std.specs.Prelude.{◌≡◌, ◌≤◌, All, length};
 ghost use Rattle.ff_core.specs.Account.{start_of};
+ghost use Rattle.ff_flash.specs.SimFlash.{IsSimFlashSound};
 ghost use Rattle.ff_trace.specs.Within.{IsOfCaller};
 ghost use Rattle.ff_sessions.specs.Begun.{IsBegun, IsRun, setup_in};
 ghost use Rattle.ff_sessions.specs.Making.{HasRoomFor};
-ghost use Rattle.ff_sessions.specs.Stops.{items_at};
+ghost use Rattle.ff_sessions.specs.Sessions.{arrive_by};
+ghost use Rattle.ff_sessions.specs.Stops.{ending_of, items_at};
 
 use crate::rows::make_rows;
 use crate::stop::{Place, Stop};
+use ff_base::Geometry;
 use ff_core::{Core, Lost};
 use ff_evict::Pick;
 use ff_flash::SimFlash;
@@ -22,11 +25,15 @@ pub struct Ran<T: Tune, E: Pick> {
 }
 
 // How many of the waiting posts arrive at a stop: after a cut what the plan says, and at the end of the rows all.
-fn arrival(stop: Stop, flash: &SimFlash, window: u32) -> u32 {
+fn arrival(stop: Stop, flash: &SimFlash, geometry: &Geometry) -> u32
+    ensures arrive { result ≡ arrive_by geometry.now (ending_of stop flash.now) }
+    ensures known { IsSimFlashSound flash.now }
+{
+    let after_cut = flash.cut_arrive();
     match stop {
-        Stop::Cut(_) => flash.cut_arrive().unwrap_or(0),
+        Stop::Cut(_) => after_cut.unwrap_or(0),
         Stop::Power { arrive, .. } => arrive,
-        Stop::End => window,
+        Stop::End => geometry.window,
     }
 }
 
@@ -44,7 +51,7 @@ pub fn run_session<T: Tune + Drop, E: Pick + Drop>(
 {
     let mut core = core;
     let stop = make_rows(&mut core, rows, at);
-    let arrive = arrival(stop, core.flash(), core.geometry().window);
+    let arrive = arrival(stop, core.flash(), core.geometry());
     Ran {
         lost: core.power(arrive),
         stop,
