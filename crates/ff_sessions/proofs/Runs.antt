@@ -28,7 +28,8 @@ use Rattle.ff_sessions.specs.declared.session.Session.{Session}
 use Rattle.ff_sessions.specs.declared.stop.Stop.{Stop}
 use Rattle.ff_sessions.proofs.Fewer.{items_few, stops_first}
 use Rattle.ff_sessions.proofs.Follows.{follow_last, follow_more}
-use Rattle.ff_sessions.proofs.Steps.{goes_on, items_none, items_whole, next_of, told_is}
+use Rattle.ff_sessions.proofs.RowItems.{items_whole}
+use Rattle.ff_sessions.proofs.Steps.{goes_on, items_none, next_of, told_is}
 
 -- what has no stop is mounted
 is_mounted : {M : Type 0} (mounted : Option M) (stop : Option MountStop) → IfNone mounted (IsSome stop) → stop ≡ None → IsSome mounted
@@ -126,7 +127,7 @@ pub runs_first : {T E : Type 0} (setup : Setup) (rows : List Row) (core : CoreVi
     → HasRoomFor core (items_of rows) → AreWithin (length setup.plan.cuts) rows
     → IsRunning setup rows [] (record { core = core; at = record { row = 0; made = 0 } })
 runs_first setup rows core begun room within =
-    let whole = sym (items_whole rows) in
+    let whole = items_whole rows in
     let stops = stops_first setup.plan rows most_losses within.losses in
     let few = items_few rows in
     let few_rows = within.few in

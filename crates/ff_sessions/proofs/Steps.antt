@@ -1,7 +1,6 @@
 -- A session of a run, from what it left and how it was closed.
-use Rattle.std.proofs.Common.{◌≡◌, ◌+◌, ◌*◌, ◌^◌, ◌≤◌, ℕ, List, [], ◌∷◌, ◌++◌, length, drop, refl, sym, ap, ◌∙◌, subst, append_assoc, arith, length-append}
-use Rattle.std.specs.Prelude.{◌-◌, Option, Some, None, IfSome, IsSomeAnd, replicate, unwrap_or}
-use Rattle.std.specs.List.{flat_map}
+use Rattle.std.proofs.Common.{◌≡◌, ◌+◌, ◌*◌, ◌^◌, ◌≤◌, ℕ, List, [], ◌++◌, length, drop, refl, sym, ap, ◌∙◌, subst, arith, length-append}
+use Rattle.std.specs.Prelude.{◌-◌, Option, Some, None, IfSome, IsSomeAnd, unwrap_or}
 use Rattle.std.proofs.lemmas.Option.{none-some, same_Some}
 use Rattle.ff_base.specs.Geometry.{IsWithinLimits}
 use Rattle.ff_base.specs.declared.geometry.Geometry.{Geometry}
@@ -18,15 +17,14 @@ use Rattle.ff_model.specs.Image.{Content}
 use Rattle.ff_mount.specs.Held.{held_content, image_reads, is_read}
 use Rattle.ff_store.specs.PageStore.{PageStoreView}
 use Rattle.ff_trace.specs.declared.row.Row.{Row}
-use Rattle.ff_trace.specs.declared.row.Row.TheVariants.{Call, Turns, Power}
 use Rattle.ff_sessions.specs.Begun.{IsBegun, IsRun, resumed_start}
 use Rattle.ff_sessions.specs.Closing.{IsClosed, IsSessionOf}
 use Rattle.ff_sessions.specs.Following.{GoesOn, IsOpened, MayFollow, MayRun, most_between, place_after, stops_left}
-use Rattle.ff_sessions.specs.Items.{Item, items_of, over, row_items, turn}
+use Rattle.ff_sessions.specs.Items.{Item, items_of}
 use Rattle.ff_sessions.specs.Making.{most_operations}
 use Rattle.ff_sessions.specs.Remounts.{IsRemounted}
 use Rattle.ff_sessions.specs.Sessions.{IsGood, IsNextSession, Setup, arrive_by, ending_items, remount_operations, setup_with, start_after}
-use Rattle.ff_sessions.specs.Stops.{IsStopWithin, ending_of, items_at, items_behind, items_from, row_left}
+use Rattle.ff_sessions.specs.Stops.{IsStopWithin, ending_of, items_at, items_behind}
 use Rattle.ff_sessions.specs.declared.chain.Open.{Open}
 use Rattle.ff_sessions.specs.declared.closing.Closed.{Closed}
 use Rattle.ff_sessions.specs.declared.session.Session.{Session}
@@ -34,6 +32,7 @@ use Rattle.ff_sessions.specs.declared.stop.Place.{Place}
 use Rattle.ff_sessions.specs.declared.stop.Stop.{Stop}
 use Rattle.ff_sessions.specs.declared.stop.Stop.TheVariants as stops
 use Rattle.ff_sessions.proofs.Fewer.{fewer_cut, fewer_loss}
+use Rattle.ff_sessions.proofs.RowItems.{items_whole}
 
 -- a flash that tells this plan
 pub told_is : (flash : FlashState) (plan : Planned) → flash.plan ≡ Some plan → told_plan flash ≡ plan
@@ -125,26 +124,12 @@ setup_same setup start rows at stop lost store cache marks image floor ran mount
     ap told_plan mounted.flash_is ∙ told_is lost.flash setup.plan ran.plan in
     rw (told, floor_is, ran.floor) refl
 
--- no turn of the first row was made
-row_whole : (row : Row) → row_left 0 row ≡ row_items row
-row_whole (Call caller op) = refl
-row_whole (Turns kind count) =
-    let all : count - 0 ≡ count = omega arith in ap (λ (n : ℕ). replicate n (turn kind)) all
-row_whole (Power arrive) = refl
-
--- nor of any: the items are all
-pub items_whole : (rows : List Row) → items_from 0 rows ≡ items_of rows
-items_whole [] = refl
-items_whole (row ∷ rows) =
-    ap (λ (items : List Item). items ++ items_of rows) (row_whole row)
-    ∙ sym (append_assoc (row_items row) (flat_map row_items rows) (over ∷ []))
-
 -- where the rows go on, the items behind the stop are those from there on
 items_on : (rows : List Row) (stop : Stop) (place : Place) → place_after stop ≡ Some place
     → items_behind rows stop ≡ items_at rows place
 items_on rows (stops.Cut at) place is = ap (items_at rows) (same_Some at place is)
 items_on rows (stops.Power row arrive) place is =
-    sym (items_whole (drop (row + 1) rows)) ∙ ap (items_at rows) (same_Some (record { row = row + 1; made = 0 }) place is)
+    items_whole (drop (row + 1) rows) ∙ ap (items_at rows) (same_Some (record { row = row + 1; made = 0 }) place is)
 items_on rows stops.End place is = absurd (none-some place is)
 
 -- where they don't, none is left
