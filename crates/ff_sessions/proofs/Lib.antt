@@ -1,8 +1,12 @@
 pub mod Called
 pub mod Ended
+pub mod Fewer
+pub mod Follows
 pub mod Making
 pub mod Numbers
 pub mod RowItems
+pub mod Runs
+pub mod Steps
 pub mod StoppedRows
 pub mod Turned
 pub mod Work

@@ -1,17 +1,27 @@
 -- How far a run has come by whole sessions.
-use Rattle.std.specs.Prelude.{ℕ, ◌+◌, ◌*◌, ◌^◌, ◌<◌, ◌≤◌, ◌≡◌, nat_lt, Bool, true, false, List, [], ◌∷◌, length, count_by, Option, None, Some, IfNone, IfSome}
+use Rattle.std.specs.Prelude.{ℕ, ◌+◌, ◌*◌, ◌^◌, ◌≤◌, ◌≡◌, nat_lt, Bool, true, false, List, [], ◌∷◌, length, count_by, Option, None, Some, IfNone, IfSome, IsSome, IsSomeAnd}
+use Rattle.ff_base.specs.declared.geometry.Geometry.{Geometry}
+use Rattle.ff_cache.specs.Cache.{CacheView}
 use Rattle.ff_core.specs.Account.{Start}
+use Rattle.ff_core.specs.Resume.{CanResume}
 use Rattle.ff_flash.specs.Plans.{Planned, cut_numbers}
+use Rattle.ff_flash.specs.SimFlash.{told_plan}
+use Rattle.ff_model.specs.Image.{Content}
+use Rattle.ff_mount.specs.Held.{held_content, nv_of}
+use Rattle.ff_store.specs.PageStore.{PageStoreView}
 use Rattle.ff_trace.specs.declared.row.Row.{Row}
-use Rattle.ff_sessions.specs.Begun.{IsBegun}
+use Rattle.ff_sessions.specs.Begun.{IsBegun, resumed_start}
 use Rattle.ff_sessions.specs.Items.{Item, items_of, loss}
 use Rattle.ff_sessions.specs.Making.{HasRoomFor, most_operations}
-use Rattle.ff_sessions.specs.Sessions.{IsNextSession, Setup, first_start, start_after}
+use Rattle.ff_sessions.specs.Sessions.{IsNextSession, Setup, first_start, setup_with, start_after}
 use Rattle.ff_sessions.specs.Stops.{items_at}
 use Rattle.ff_sessions.specs.declared.chain.Open.{Open}
 use Rattle.ff_sessions.specs.declared.chain.Step.{Step}
+use Rattle.ff_sessions.specs.declared.closing.Closed.{Closed}
 use Rattle.ff_sessions.specs.declared.session.Session.{Session}
 use Rattle.ff_sessions.specs.declared.stop.Place.{Place}
+use Rattle.ff_sessions.specs.declared.stop.Stop.{Stop}
+use Rattle.ff_sessions.specs.declared.stop.Stop.TheVariants as stops
 
 abbrev pub is_loss : Item → Bool
 is_loss (loss arrive) = true
@@ -70,3 +80,32 @@ pub record IsStep {T E : Type 0} (setup : Setup) (start : Start) (rows : List Ro
   pub next : IsNextSession setup start step.session (items_at rows at) left
   pub again : IfSome step.next (GoesOn setup rows step.session (items_at rows at) left start)
   pub ends : IfNone step.next (step.session.stop ≡ None → left ≡ [])
+
+-- where the rows go on behind a stop, if they do
+abbrev pub place_after : Stop → Option Place
+place_after (stops.Cut place) = Some place
+place_after (stops.Power row arrive) = Some (record { row = row + 1; made = 0 })
+place_after stops.End = None
+
+-- the image of a session that is over is that of these mounted parts, and the next one may begin over them
+pub record MayFollow (geometry : Geometry) (session : Session) (store : PageStoreView)
+    (cache : CacheView) (marks : List ℕ) : Type 0 where
+  pub image : session.image
+      ≡ Some (held_content geometry.pages (nv_of cache marks) store.world.flash.cells)
+  pub resumes : CanResume geometry store cache marks session.account.events
+
+-- a session began over the mounted parts, from the image of the one that is over, with room for the rows behind the stop
+pub record IsOpened {T E : Type 0} (geometry : Geometry) (rows : List Row) (closed : Closed T E)
+    (stop : Stop) (running : Open T E) : Type 0 where
+  pub place : place_after stop ≡ Some running.at
+  pub begun : IsSomeAnd closed.mounted (λ m. (base : Content) → closed.session.image ≡ Some base
+      → IsBegun (setup_with geometry (told_plan m.store.world.flash) closed.tuner.floor)
+      (resumed_start base closed.session.account.events m.store.world.flash) running.core)
+  pub room : HasRoomFor running.core (items_at rows running.at)
+
+-- the session that is over was kept, and the next one is open, or none where nothing is mounted or no rows are left
+pub record IsGoneOn {T E : Type 0} (geometry : Geometry) (rows : List Row) (closed : Closed T E)
+    (stop : Stop) (step : Step T E) : Type 0 where
+  pub session : step.session ≡ closed.session
+  pub next : IfSome step.next (IsOpened geometry rows closed stop)
+  pub ends : IfNone step.next (IsSome closed.mounted → place_after stop ≡ None)

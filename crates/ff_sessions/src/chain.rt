@@ -1,12 +1,14 @@
 // The chain of sessions of a run.
-ghost use Rattle.std.specs.Prelude.{◌≡◌, ◌≤◌, All, IfOk, length, vec_len};
+ghost use Rattle.std.specs.Prelude.{◌≡◌, ◌≤◌, ◌*◌, All, IfOk, IfSome, length, vec_len};
 ghost use Rattle.ff_base.specs.Geometry.{IsWithinLimits};
 ghost use Rattle.ff_core.specs.Account.{start_of};
 ghost use Rattle.ff_flash.specs.Plans.{IsPlan, planned_of};
-ghost use Rattle.ff_trace.specs.Within.{AreWithin};
+ghost use Rattle.ff_trace.specs.Tally.{most_rows, most_turns};
+ghost use Rattle.ff_trace.specs.Within.{AreWithin, IsOfCaller, turns_asked};
 ghost use Rattle.ff_sessions.specs.Begun.{setup_in};
-ghost use Rattle.ff_sessions.specs.Following.{IsStep, MayRun};
+ghost use Rattle.ff_sessions.specs.Following.{IsGoneOn, IsStep, MayFollow, MayRun, place_after};
 ghost use Rattle.ff_sessions.specs.Sessions.{AreSessionsOf, setup_with};
+ghost use Rattle.ff_sessions.specs.Stops.{IsStopWithin};
 
 use crate::closing::{Closed, close};
 use crate::opening::{open_first, open_next};
@@ -38,8 +40,11 @@ struct Step<T: Tune, E: Pick> {
     next: Option<Open<T, E>>,
 }
 
-// Where the rows go on behind a stop.
-fn behind(stop: Stop) -> Option<Place> {
+// Where so many rows go on behind a stop.
+fn behind(stop: Stop, count: usize) -> Option<Place>
+    requires { IsStopWithin count stop }
+    ensures { result ≡ place_after stop }
+{
     match stop {
         Stop::Cut(at) => Some(at),
         Stop::Power { row, .. } => Some(Place {
@@ -51,24 +56,36 @@ fn behind(stop: Stop) -> Option<Place> {
 }
 
 // Opens the session behind one that is over, where that has an image and rows are left.
+#[tactic(auto, using(crate::proofs::Fewer::turns_left))]
 fn go_on<T: Tune + Drop, E: Pick + Drop>(
     alloc: Global,
     closed: Closed<T, E>,
     stop: Stop,
     rows: &[Row],
     geometry: &Geometry,
-) -> Result<Step<T, E>, NoMemory> {
+) -> Result<Step<T, E>, NoMemory>
+    requires geometry { IsWithinLimits geometry.now }
+    requires parts { IfSome closed.mounted
+        (λ m. MayFollow geometry.now closed.session m.store m.cache m.marks) }
+    requires within { IsStopWithin (length rows.now) stop }
+    requires few { length rows.now ≤ most_rows }
+    requires turns { turns_asked rows.now ≤ 4 * most_turns }
+    ensures { IfOk result (IsGoneOn geometry.now rows.now closed stop) }
+{
     let Closed {
         session,
         mounted,
         tuner,
         picker,
     } = closed;
-    let (Some(mounted), Some(base), Some(at)) = (mounted, &session.image, behind(stop)) else {
+    let (Some(mounted), Some(at)) = (mounted, behind(stop, rows.len())) else {
         return Ok(Step {
             session,
             next: None,
         });
+    };
+    let Some(base) = &session.image else {
+        unreachable!()
     };
     let event = session.account.events();
     let left = &rows[at.row..];
@@ -86,12 +103,15 @@ fn next_session<T: Tune + Drop, E: Pick + Drop>(
     rows: &[Row],
     geometry: &Geometry,
 ) -> Result<Step<T, E>, NoMemory>
-    requires rows { AreWithin 0 rows.now }
+    requires callers { All IsOfCaller rows.now }
+    requires few { length rows.now ≤ most_rows }
+    requires turns { turns_asked rows.now ≤ 4 * most_turns }
     requires geometry { geometry.now ≡ running.core.geometry }
     requires may_run { MayRun (setup_in running.core) (start_of running.core) rows.now running }
     ensures { IfOk result (IsStep (setup_in running.core) (start_of running.core) rows.now running.at) }
 {
-    let Ran { lost, stop } = run_session(running.core, rows, running.at);
+    let Open { core, at } = running;
+    let Ran { lost, stop } = run_session(core, rows, at);
     let closed = close(alloc, lost, geometry)?;
     go_on(alloc, closed, stop, rows, geometry)
 }
@@ -119,7 +139,7 @@ pub fn run<T: Tune + Drop, E: Pick + Drop>(
         core,
         at: Place { row: 0, made: 0 },
     };
-    for _session in 0..MOST_SESSIONS {
+    for _ in 0..MOST_SESSIONS {
         let Step { session, next } = next_session(alloc, running, rows, &geometry)?;
         sessions.push(session)?;
         match next {

@@ -1,0 +1,230 @@
+-- A session of a run, from what it left and how it was closed.
+use Rattle.std.proofs.Common.{◌≡◌, ◌+◌, ◌*◌, ◌^◌, ◌≤◌, ℕ, List, [], ◌++◌, length, drop, refl, sym, ap, ◌∙◌, subst, arith, length-append}
+use Rattle.std.specs.Prelude.{◌-◌, Option, Some, None, IfSome, IsSomeAnd, unwrap_or}
+use Rattle.std.proofs.lemmas.Option.{none-some, same_Some}
+use Rattle.ff_base.specs.Geometry.{IsWithinLimits}
+use Rattle.ff_base.specs.declared.geometry.Geometry.{Geometry}
+use Rattle.ff_cache.specs.Cache.{CacheView}
+use Rattle.ff_cache.specs.Nv.{NvView}
+use Rattle.ff_core.specs.Account.{Start}
+use Rattle.ff_core.specs.Record.{RecordView}
+use Rattle.ff_core.specs.declared.core_state.losing.Lost.{Lost}
+use Rattle.ff_flash.specs.FlashState.{FlashState}
+use Rattle.ff_flash.specs.Plans.{Planned}
+use Rattle.ff_flash.specs.SimFlash.{arrive_of_cut, told_plan}
+use Rattle.ff_lines.proofs.PageCounts.{count_below-most}
+use Rattle.ff_model.specs.Image.{Content}
+use Rattle.ff_mount.specs.Held.{held_content, image_reads, is_read}
+use Rattle.ff_store.specs.PageStore.{PageStoreView}
+use Rattle.ff_trace.specs.declared.row.Row.{Row}
+use Rattle.ff_sessions.specs.Begun.{IsBegun, IsRun, resumed_start}
+use Rattle.ff_sessions.specs.Closing.{IsClosed, IsSessionOf}
+use Rattle.ff_sessions.specs.Following.{GoesOn, IsOpened, MayFollow, MayRun, most_between, place_after, stops_left}
+use Rattle.ff_sessions.specs.Items.{Item, items_of}
+use Rattle.ff_sessions.specs.Making.{most_operations}
+use Rattle.ff_sessions.specs.Remounts.{IsRemounted}
+use Rattle.ff_sessions.specs.Sessions.{IsGood, IsNextSession, Setup, arrive_by, ending_items, remount_operations, setup_with, start_after}
+use Rattle.ff_sessions.specs.Stops.{IsStopWithin, ending_of, items_at, items_behind}
+use Rattle.ff_sessions.specs.declared.chain.Open.{Open}
+use Rattle.ff_sessions.specs.declared.closing.Closed.{Closed}
+use Rattle.ff_sessions.specs.declared.session.Session.{Session}
+use Rattle.ff_sessions.specs.declared.stop.Place.{Place}
+use Rattle.ff_sessions.specs.declared.stop.Stop.{Stop}
+use Rattle.ff_sessions.specs.declared.stop.Stop.TheVariants as stops
+use Rattle.ff_sessions.proofs.Fewer.{fewer_cut, fewer_loss}
+use Rattle.ff_sessions.proofs.RowItems.{items_whole}
+
+-- a flash that tells this plan
+pub told_is : (flash : FlashState) (plan : Planned) → flash.plan ≡ Some plan → told_plan flash ≡ plan
+told_is flash plan is = rw is refl
+
+-- the session of what a run of its rows left is good, and took its items
+good_of : {T E : Type 0} (setup : Setup) (start : Start) (rows : List Row) (at : Place) (stop : Stop) (lost : Lost FlashState T E)
+    (session : Session) → IsRun setup start rows at stop lost → IsSessionOf setup.geometry lost session
+    → IsGood setup start (arrive_by setup.geometry (ending_of stop lost.flash)) session
+good_of setup start rows at stop lost session ran of =
+    let told = told_is lost.flash setup.plan ran.plan in
+    record {
+      base = of.base ∙ ran.base;
+      account = rw (of.account, of.flash) ran.account;
+      plan = ap (λ (f : FlashState). f.plan) of.flash ∙ ran.plan;
+      planned = rw of.flash ran.planned;
+      lost = rw (of.account, of.nv, of.flash) ran.owed;
+      stop = rw (of.nv, of.flash) (rw told at of.stop);
+      image = rw (of.nv, of.flash) of.image;
+    }
+
+pub next_of : {T E : Type 0} (setup : Setup) (start : Start) (rows : List Row) (at : Place) (stop : Stop) (lost : Lost FlashState T E)
+    (session : Session) → IsRun setup start rows at stop lost → IsSessionOf setup.geometry lost session
+    → IsNextSession setup start session (items_at rows at) (items_behind rows stop)
+next_of setup start rows at stop lost session ran of = record {
+  ending = ending_of stop lost.flash;
+  takes = record {
+    work = ran.work;
+    taken = ran.taken;
+    is_work = rw of.account ran.is_work;
+    cut = rw of.flash ran.cut;
+    leaves = ran.leaves;
+  };
+  numbered = λ caller. rw of.account (ran.numbered caller);
+  good = good_of setup start rows at stop lost session ran of;
+}
+
+-- a mount and an image take few operations
+remount_few : (geometry : Geometry) (nv : NvView) (flash : FlashState) → IsWithinLimits geometry
+    → remount_operations geometry nv flash ≤ 2 ^ 14 + 2 ^ 16
+remount_few geometry nv flash limits =
+    let probes = limits.flash_pages.high in
+    let pages = limits.pages.high in
+    let reads : image_reads geometry.pages nv.slots flash.cells ≤ geometry.pages =
+    count_below-most (is_read nv.slots flash.cells) geometry.pages in
+    omega arith
+
+-- a session may begin over what a remount of one that is over found
+may_follow : {T E : Type 0} (geometry : Geometry) (lost : Lost FlashState T E) (session : Session) (store : PageStoreView)
+    (cache : CacheView) (marks : List ℕ) → IsSessionOf geometry lost session → session.stop ≡ None
+    → IsRemounted geometry lost.nv lost.flash store cache marks (held_content geometry.pages lost.nv lost.flash.cells)
+    → session.account.events ≤ 2 ^ 62 → MayFollow geometry session store cache marks
+may_follow geometry lost session store cache marks of none mounted not_past = record {
+  image = of.image ∙ rw none (ap Some mounted.base_is);
+  resumes = mounted.resumes session.account.events not_past;
+}
+
+-- what both say of a value
+both_some : {M : Type 0} {P Q R : M → Type 0} (o : Option M) → IfSome o P → IfSome o Q → ((m : M) → P m → Q m → R m) → IfSome o R
+both_some None p q f = tt
+both_some (Some m) p q f = f m p q
+
+-- a session may begin over the mounted parts, where there are any
+pub parts_of : {T E : Type 0} (setup : Setup) (start : Start) (rows : List Row) (at : Place) (stop : Stop) (lost : Lost FlashState T E)
+    (geometry : Geometry) (closed : Closed T E) → IsRun setup start rows at stop lost → IsClosed geometry lost closed
+    → IfSome closed.mounted (λ m. MayFollow geometry closed.session m.store m.cache m.marks)
+parts_of setup start rows at stop lost geometry closed ran closes =
+    let account = ap (λ (a : RecordView). a.events) closes.session.account in
+    let not_past = ran.account.not_past in
+    both_some closed.mounted closes.mounted closes.runs_on (λ m mounted none.
+    may_follow geometry lost closed.session m.store m.cache m.marks closes.session none mounted (omega arith))
+
+-- it starts where the session behind this one does
+start_same : {T E : Type 0} (setup : Setup) (lost : Lost FlashState T E) (session : Session) (store : PageStoreView)
+    (cache : CacheView) (marks : List ℕ) (image : Content) → IsSessionOf setup.geometry lost session
+    → IsRemounted setup.geometry lost.nv lost.flash store cache marks image
+    → resumed_start (held_content setup.geometry.pages lost.nv lost.flash.cells) session.account.events store.world.flash
+    ≡ start_after setup session
+start_same setup lost session store cache marks image of mounted =
+    rw (mounted.flash_is, of.nv, of.flash) refl
+
+-- by the same setup
+setup_same : {T E : Type 0} (setup : Setup) (start : Start) (rows : List Row) (at : Place) (stop : Stop) (lost : Lost FlashState T E)
+    (store : PageStoreView) (cache : CacheView) (marks : List ℕ) (image : Content) (floor : ℕ) → IsRun setup start rows at stop lost
+    → IsRemounted setup.geometry lost.nv lost.flash store cache marks image → floor ≡ lost.tuner.floor
+    → setup_with setup.geometry (told_plan store.world.flash) floor ≡ setup
+setup_same setup start rows at stop lost store cache marks image floor ran mounted floor_is =
+    let told : told_plan store.world.flash ≡ setup.plan =
+    ap told_plan mounted.flash_is ∙ told_is lost.flash setup.plan ran.plan in
+    rw (told, floor_is, ran.floor) refl
+
+-- where the rows go on, the items behind the stop are those from there on
+items_on : (rows : List Row) (stop : Stop) (place : Place) → place_after stop ≡ Some place
+    → items_behind rows stop ≡ items_at rows place
+items_on rows (stops.Cut at) place is = ap (items_at rows) (same_Some at place is)
+items_on rows (stops.Power row arrive) place is =
+    items_whole (drop (row + 1) rows) ∙ ap (items_at rows) (same_Some (record { row = row + 1; made = 0 }) place is)
+items_on rows stops.End place is = absurd (none-some place is)
+
+-- where they don't, none is left
+pub items_none : (rows : List Row) (stop : Stop) → place_after stop ≡ None → items_behind rows stop ≡ []
+items_none rows (stops.Cut at) is = absurd (none-some at (sym is))
+items_none rows (stops.Power row arrive) is = absurd (none-some (record { row = row + 1; made = 0 }) (sym is))
+items_none rows stops.End is = refl
+
+-- where the rows go on is among them, or behind the last
+place_within : (count : ℕ) (stop : Stop) (place : Place) → IsStopWithin count stop → place_after stop ≡ Some place
+    → place.row ≤ count
+place_within count (stops.Cut at) place within is =
+    let same = ap (λ (p : Place). p.row) (same_Some at place is) in omega arith
+place_within count (stops.Power row arrive) place within is =
+    let same = ap (λ (p : Place). p.row) (same_Some (record { row = row + 1; made = 0 }) place is) in omega arith
+place_within count stops.End place within is = absurd (none-some place is)
+
+-- fewer losses of power are left behind a stop
+fewer_behind : {T E : Type 0} (setup : Setup) (start : Start) (rows : List Row) (at : Place) (stop : Stop) (place : Place)
+    (lost : Lost FlashState T E) (new : ℕ) → IsRun setup start rows at stop lost → place_after stop ≡ Some place
+    → lost.flash.operations ≤ new
+    → stops_left new setup.plan (items_behind rows stop) + 1 ≤ stops_left start.operations setup.plan (items_at rows at)
+fewer_behind setup start rows at (stops.Cut cut) place lost new ran is rise =
+    subst (λ (plan : Planned). stops_left new plan (items_at rows cut) + 1 ≤ stops_left start.operations plan (items_at rows at))
+    (told_is lost.flash setup.plan ran.plan)
+    (fewer_cut start.operations new lost.flash (unwrap_or (arrive_of_cut lost.flash) 0) (items_at rows at) ran.work
+    (items_at rows cut) ran.cut (ran.counted (unwrap_or (arrive_of_cut lost.flash) 0) ran.cut) rise ran.taken)
+fewer_behind setup start rows at (stops.Power row arrive) place lost new ran is rise =
+    let no_fall = ran.no_fall in
+    fewer_loss start.operations new setup.plan arrive (items_at rows at) ran.work (items_of (drop (row + 1) rows)) ran.taken (omega arith)
+fewer_behind setup start rows at stops.End place lost new ran is rise = absurd (none-some place is)
+
+-- the items that a session took and those that it left are not more than there were
+taken_few : {T E : Type 0} (setup : Setup) (start : Start) (rows : List Row) (at : Place) (stop : Stop) (lost : Lost FlashState T E)
+    → (ran : IsRun setup start rows at stop lost) → length ran.work + length (items_behind rows stop) ≤ length (items_at rows at)
+taken_few setup start rows at stop lost ran =
+    let left = items_behind rows stop in
+    let ending = ending_items (ending_of stop lost.flash) in
+    let all = ap length ran.taken ∙ length-append ran.work (ending ++ left) in
+    let behind = length-append ending left in
+    omega arith
+
+-- the life that is left for the session behind
+life_left : (start new operations remount work left items stops stops_new : ℕ) → new ≡ operations + remount
+    → operations ≤ start + most_operations * (work + 1) → remount ≤ 2 ^ 14 + 2 ^ 16 → work + left ≤ items → stops_new + 1 ≤ stops
+    → start + most_operations * items + most_between * (stops + 1) ≤ 2 ^ 61
+    → new + most_operations * left + most_between * (stops_new + 1) ≤ 2 ^ 61
+life_left start new operations remount work left items stops stops_new is most few taken fewer life = omega arith
+
+-- a value, with what is known of it
+some_of : {M R : Type 0} {P Q : M → Type 0} (o : Option M) → IsSomeAnd o Q → IfSome o P → ((m : M) → P m → Q m → R) → R
+some_of None some p f = absurd some
+some_of (Some m) some p f = f m p some
+
+-- the session behind a stop that was opened over what the one before it left
+module _ {T E : Type 0} (setup : Setup) (start : Start) (rows : List Row) (running : Open T E) (stop : Stop)
+    (lost : Lost FlashState T E) (closed : Closed T E) (later : Open T E) (may : MayRun setup start rows running)
+    (ran : IsRun setup start rows running.at stop lost) (closes : IsClosed setup.geometry lost closed)
+    (opens : IsOpened setup.geometry rows closed stop later) where
+  imaged : closed.session.stop ≡ None
+  imaged = some_of closed.mounted opens.begun closes.runs_on (λ m none begun. none)
+
+  image_is : closed.session.image ≡ Some (held_content setup.geometry.pages lost.nv lost.flash.cells)
+  image_is = closes.session.image ∙ rw imaged refl
+
+  begun_on : IsBegun setup (start_after setup closed.session) later.core
+  begun_on = some_of closed.mounted opens.begun closes.mounted (λ m mounted begun.
+      let floor : closed.tuner.floor ≡ lost.tuner.floor = ap (λ t. t.floor) closes.tuner in
+      subst (λ (s : Setup). IsBegun s (start_after setup closed.session) later.core)
+      (setup_same setup start rows running.at stop lost m.store m.cache m.marks _ closed.tuner.floor ran mounted floor)
+      (subst (λ (s : Start). IsBegun (setup_with setup.geometry (told_plan m.store.world.flash) closed.tuner.floor) s later.core)
+      (start_same setup lost closed.session m.store m.cache m.marks _ closes.session mounted)
+      (begun (held_content setup.geometry.pages lost.nv lost.flash.cells) image_is)))
+
+  pub goes_on : GoesOn setup rows closed.session (items_at rows running.at) (items_behind rows stop) start later
+  goes_on =
+      let session = closed.session in
+      let left_is = items_on rows stop later.at opens.place in
+      let operations = ap (λ (f : FlashState). f.operations) closes.session.flash in
+      let new = (start_after setup session).operations in
+      let few = remount_few setup.geometry session.nv session.flash may.begun.limits in
+      let fewer = fewer_behind setup start rows running.at stop later.at lost new ran opens.place (omega arith) in
+      record {
+        imaged = imaged;
+        left_is = left_is;
+        may_run = record {
+          begun = begun_on;
+          place = place_within (length rows) stop later.at ran.within opens.place;
+          room = opens.room;
+          life = subst (λ (items : List Item). new + most_operations * length items + most_between * (stops_left new setup.plan items + 1) ≤ 2 ^ 61)
+              left_is
+              (life_left start.operations new lost.flash.operations (remount_operations setup.geometry session.nv session.flash)
+              (length ran.work) (length (items_behind rows stop)) (length (items_at rows running.at))
+              (stops_left start.operations setup.plan (items_at rows running.at)) (stops_left new setup.plan (items_behind rows stop))
+              (omega arith) ran.most few (taken_few setup start rows running.at stop lost ran) fewer may.life);
+        };
+        fewer = fewer;
+      }
