@@ -36,6 +36,8 @@ pub fn remount<F: Flash + Drop>(
         Ok(mounted) => mounted,
         Err(back) => return Err(back.stop),
     };
-    let image = image_of(alloc, &mut mounted, geometry)?;
-    Ok(Remounted { mounted, image })
+    match image_of(alloc, &mut mounted, geometry) {
+        Ok(image) => Ok(Remounted { mounted, image }),
+        Err(stop) => Err(stop),
+    }
 }
