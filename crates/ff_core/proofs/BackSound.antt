@@ -1,11 +1,10 @@
 -- A core stays sound after a background turn.
-use Rattle.std.proofs.Common.{◌≡◌, ◌<◌, ◌==◌, ℕ, Bool, true, false, Option, None, Some, refl, sym, ap, ◌∙◌, subst, arith}
+use Rattle.std.proofs.Common.{◌≡◌, ◌<◌, ◌==◌, ℕ, Bool, true, false, Option, None, Some, refl, sym, subst, arith}
 use Rattle.std.proofs.lemmas.Bool.{eqb-false}
 use Rattle.ff_base.specs.Count.{last_event}
 use Rattle.ff_calls.specs.Told.{IsTold}
 use Rattle.ff_lines.specs.DeviceState.{IsDevice}
 use Rattle.ff_memory.specs.Memory.{IsMemorySound}
-use Rattle.ff_memory.specs.declared.access.What.{What}
 use Rattle.ff_model.specs.declared.counts.Kind.{Kind}
 use Rattle.ff_model.specs.declared.counts.Kind.TheVariants.{Promote as PromoteKind, Evict as EvictKind, Collect as CollectKind, Drain as DrainKind}
 use Rattle.ff_core.specs.Backs.{IsBack, IsBackAt, IsBackBy, back_of, core_after, rested, turned_now, with_logged}
@@ -16,7 +15,6 @@ use Rattle.ff_core.specs.Hierarchy.{HierarchyView, flash_under, lines_under}
 use Rattle.ff_core.specs.Performs.{Performs}
 use Rattle.ff_core.specs.Tally.{tally_after}
 use Rattle.ff_core.specs.declared.action.Action.{Action}
-use Rattle.ff_core.specs.declared.action.Action.TheVariants.{Advance, TurnBack, Work, Promote, Retreat, Evict, Collect, Drain}
 use Rattle.ff_core.specs.declared.action.Progress.{Progress}
 use Rattle.ff_core.specs.declared.action.Progress.TheVariants.{Did, Failed, Off}
 use Rattle.ff_core.specs.declared.log.Back.{Back}
@@ -29,27 +27,7 @@ use Rattle.ff_core.proofs.SoundOver.{counted-alike, sound-over, still-parts}
 use Rattle.ff_core.proofs.Tallied.{CountsAlike, CountsTurn, after-moves, chosen-turn, performs-alike}
 use Rattle.ff_core.proofs.Timing.{later-cut, later-looked, later-stepped}
 
--- a turn that did something, or failed
-back-did : (action : Action) (what : What) → is_failed (back_of action (Did what)) ≡ false
-back-did (Advance slot) what = refl
-back-did (TurnBack slot) what = refl
-back-did (Work page) what = refl
-back-did (Promote page) what = refl
-back-did (Retreat page) what = refl
-back-did (Evict frame) what = refl
-back-did Collect what = refl
-back-did Drain what = refl
-
-back-failed : (action : Action) → back_of action Failed ≡ BackFailed
-back-failed (Advance slot) = refl
-back-failed (TurnBack slot) = refl
-back-failed (Work page) = refl
-back-failed (Promote page) = refl
-back-failed (Retreat page) = refl
-back-failed (Evict frame) = refl
-back-failed Collect = refl
-back-failed Drain = refl
-
+-- a turn that failed began no promotion
 failed-unpromoted : (kind : Kind) → is_promotion_by kind BackFailed ≡ false
 failed-unpromoted PromoteKind = refl
 failed-unpromoted EvictKind = refl
@@ -101,10 +79,9 @@ acted-sound (Did what) action kind old h sound on going is runs turns alike told
       told = told;
       later = later-stepped old h sound.timed going runs.opened runs.one_more;
       counts = recounted-turned old kind (back_of action (Did what)) (next_number old.events)
-          (tally_after action (Did what) old.tally) h counts.device counts.host (omega arith) turns (back-did action what) alike runs;
+          (tally_after action (Did what) old.tally) h counts.device counts.host (omega arith) turns refl alike runs;
     })
 acted-sound Failed action kind old h sound on going is runs turns alike told =
-    let failed = back-failed action in
     sound-over old old.history (next_number old.events) (with_logged (turned_now old kind (back_of action Failed)) old.log) old.tally h
     sound on
     (record {
@@ -114,7 +91,7 @@ acted-sound Failed action kind old h sound on going is runs turns alike told =
       told = told;
       later = later-stepped old h sound.timed going runs.opened runs.one_more;
       counts = recounted-failed old kind (back_of action Failed) (next_number old.events) h (omega arith)
-          (ap (λ (back : Back). is_promotion_by kind back) failed ∙ failed-unpromoted kind) (ap is_failed failed) alike runs;
+          (failed-unpromoted kind) refl alike runs;
     })
 acted-sound Off action kind old h sound on going is runs turns alike told =
     sound-over old old.history old.events old.log old.tally h sound on

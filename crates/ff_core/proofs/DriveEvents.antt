@@ -34,6 +34,7 @@ use Rattle.ff_core.specs.declared.turn.Turn.{Turn}
 use Rattle.ff_core.specs.declared.turn.Turn.TheVariants.{Served, Miss, Off}
 use Rattle.ff_core.proofs.MissFalls.{LooksSame, miss_falls}
 use Rattle.ff_core.proofs.MissRuns.{RunsStep, miss_runs, store_same}
+use Rattle.ff_core.proofs.Running.{Runs, performs-runs}
 use Rattle.ff_core.proofs.WorkFalls.{IsStepGiven}
 
 pub next_few : (event : ℕ) → next_number event ≤ event + 1
@@ -62,10 +63,10 @@ off_event old caller number op turn new off is same = rw (is, same) (record {
 
 -- the call was refused
 refused_event : {T E : Type 0} (old : CoreView T E) (caller : Caller) (number : ℕ) (op : Op) (reply : Reply) (turn : Turn)
-    (new : CoreView T E) → turn ≡ Served reply → new ≡ answered old caller number op reply
-    → IsEvent old caller number op turn new
-refused_event old caller number op reply turn new is same = rw (is, same) (record {
-  answer = served reply old.events (flash_under old.hierarchy).faults refl refl;
+    (new : CoreView T E) → (flash_under old.hierarchy).on ≡ true → turn ≡ Served reply
+    → new ≡ answered old caller number op reply → IsEvent old caller number op turn new
+refused_event old caller number op reply turn new on is same = rw (is, same) (record {
+  answer = served reply old.events (flash_under old.hierarchy).faults refl refl on;
   log = refl;
   same = record {
     opening = refl;
@@ -96,14 +97,15 @@ policy_tuner {T = T} Neither page answers old new is = ap (λ (p : PolicyView T)
 
 -- the call was served
 served_event : {T E : Type 0} (answers : T → ℕ → ℕ → ℕ → ℕ → Type 0) (old : CoreView T E) (caller : Caller) (number : ℕ) (op : Op)
-    (reply : Reply) (turn : Turn) (new : CoreView T E) → turn ≡ Served reply → IsServed answers old caller number op reply new
-    → IsEvent old caller number op turn new
-served_event {T = T} {E = E} answers old caller number op reply turn new is s =
+    (reply : Reply) (turn : Turn) (new : CoreView T E) → (flash_under old.hierarchy).on ≡ true → turn ≡ Served reply
+    → IsServed answers old caller number op reply new → IsEvent old caller number op turn new
+served_event {T = T} {E = E} answers old caller number op reply turn new on is s =
     let store : new.hierarchy.device.store ≡ old.hierarchy.device.store =
     ap (λ (c : CoreView T E). c.hierarchy.device.store) s.core ∙ s.access.store in
     let operations = ap (λ (t : PageStoreView). t.world.flash.operations) store in
+    let power = ap (λ (t : PageStoreView). t.world.flash.on) store ∙ on in
     rw is (record {
-      answer = served reply old.events _ refl (ap (λ (c : CoreView T E). c.history) s.core);
+      answer = served reply old.events _ refl (ap (λ (c : CoreView T E). c.history) s.core) power;
       log = ap (λ (c : CoreView T E). c.log) s.core;
       same = record {
         opening = ap (λ (c : CoreView T E). c.opening) s.core;
@@ -148,7 +150,9 @@ record LeavesCore {T E : Type 0} (old new : CoreView T E) : Type 0 where
 record IsMissing {T E : Type 0} (old : CoreView T E) (op : Op) (page : PageNo) (between : HierarchyView T E)
     (progress : Progress) (new : CoreView T E) : Type 0 where
   access : IsAccess op (length old.history.entries) old.hierarchy (AccessMiss page) between
-  runs : RunsStep between progress new.hierarchy
+  on : (flash_under between).on ≡ true
+  leaves : RunsStep between progress new.hierarchy
+  runs : Runs progress between new.hierarchy
   falls : (what : _) → progress ≡ Did what → events_left op new.hierarchy < events_left op old.hierarchy
 
 missing_event : {T E : Type 0} (old : CoreView T E) (caller : Caller) (number : ℕ) (op : Op) (page : PageNo)
@@ -158,8 +162,8 @@ missing_event : {T E : Type 0} (old : CoreView T E) (caller : Caller) (number : 
 missing_event {T = T} {E = E} old caller number op page between progress turn new m leaves answer =
     let store = m.access.store in
     let operations = ap (λ (t : PageStoreView). t.world.flash.operations) store in
-    let no_fall = m.runs.no_fall in
-    let one_more = m.runs.one_more in
+    let no_fall = m.leaves.no_fall in
+    let one_more = m.leaves.one_more in
     record {
       answer = answer;
       log = leaves.log;
@@ -169,10 +173,10 @@ missing_event {T = T} {E = E} old caller number op page between progress turn ne
         from_counts = leaves.from_counts;
         room = leaves.room;
         turns_room = ap (λ l. l.room) leaves.log;
-        floor = ap (λ (p : PolicyView T). p.tuner) m.runs.policy
+        floor = ap (λ (p : PolicyView T). p.tuner) m.leaves.policy
             ∙ ap (λ (g : HierarchyView T E). g.policy.tuner) m.access.rest;
-        picker = ap (λ v. v.picker) m.runs.evictor ∙ ap (λ (g : HierarchyView T E). g.evictor.picker) m.access.rest;
-        store = rw store at m.runs.store;
+        picker = ap (λ v. v.picker) m.leaves.evictor ∙ ap (λ (g : HierarchyView T E). g.evictor.picker) m.access.rest;
+        store = rw store at m.leaves.store;
       };
       events = leaves.events;
       no_fall = omega (arith, operations, no_fall);
@@ -198,7 +202,7 @@ missing_by {T = T} {E = E} (Did what) old caller number op page action between t
       events = omega (arith, event, few);
     } in
     let answer : AnswersOrLeaves (Miss page) old caller number op new =
-    (ap (λ (c : CoreView T E). c.history) core, m.falls what refl) in
+    record { history = ap (λ (c : CoreView T E). c.history) core; fewer = m.falls what refl; on = m.runs.power m.on } in
     rw after.0 (missing_event old caller number op page between (Did what) (Miss page) new m leaves answer)
 missing_by {T = T} {E = E} Failed old caller number op page action between turn new m after =
     let core = after.1 in
@@ -213,7 +217,7 @@ missing_by {T = T} {E = E} Failed old caller number op page action between turn 
       events = omega (arith, event, few);
     } in
     let answer : AnswersOrLeaves (Served Fault) old caller number op new =
-    served Fault old.events (flash_under new.hierarchy).faults refl (ap (λ (c : CoreView T E). c.history) core) in
+    served Fault old.events (flash_under new.hierarchy).faults refl (ap (λ (c : CoreView T E). c.history) core) (m.runs.power m.on) in
     rw after.0 (missing_event old caller number op page between Failed (Served Fault) new m leaves answer)
 missing_by {T = T} {E = E} ProgressOff old caller number op page action between turn new m after =
     let core = after.1 in
@@ -227,7 +231,7 @@ missing_by {T = T} {E = E} ProgressOff old caller number op page action between 
       events = omega (arith, event);
     } in
     let answer : AnswersOrLeaves Off old caller number op new =
-    cut refl (ap (λ (c : CoreView T E). c.history) core) (m.runs.off refl) in
+    cut refl (ap (λ (c : CoreView T E). c.history) core) m.runs.stops.0 in
     rw after.0 (missing_event old caller number op page between ProgressOff Off new m leaves answer)
 
 -- what is known of a core before and after an event with the power on
@@ -258,7 +262,9 @@ missed_event {T = T} {E = E} old caller number op turn new given on asked m =
     let step = m.step in
     let missing : IsMissing old op m.page between step.progress new = record {
       access = m.access;
-      runs = miss_runs op m.page step.action between step.progress new.hierarchy power step.asked step.performs;
+      on = power;
+      leaves = miss_runs op m.page step.action between step.progress new.hierarchy power step.asked step.performs;
+      runs = performs-runs step.action between step.progress new.hierarchy power step.performs;
       falls = λ what did. miss_falls op m.page step.action what old.hierarchy between new.hierarchy looks known told.finds step.asked
           (rw did at step.performs);
     } in
@@ -269,7 +275,7 @@ attempt_event : {T E : Type 0} (answers : T → ℕ → ℕ → ℕ → ℕ → 
     → IsAsked old.opening.pages old.events op → IsAttempt answers old caller number op turn new
     → IsEvent old caller number op turn new
 attempt_event answers old caller number op turn new given on asked (serves reply is s) =
-    served_event answers old caller number op reply turn new is s
+    served_event answers old caller number op reply turn new on is s
 attempt_event answers old caller number op turn new given on asked (misses m) =
     missed_event old caller number op turn new given on asked m
 
@@ -278,7 +284,7 @@ powered_event : {T E : Type 0} (refused : Option Reply) (answers : T → ℕ →
     → IsEventGiven old new → (flash_under old.hierarchy).on ≡ true → IsTurnBy refused answers old caller number op turn new
     → IsEvent old caller number op turn new
 powered_event (Some reply) answers old caller number op turn new refused given on is =
-    refused_event old caller number op reply turn new is.0 is.1
+    refused_event old caller number op reply turn new on is.0 is.1
 powered_event None answers old caller number op turn new refused given on is =
     let asked = asked_by (is_in_range old.opening.pages op) (old.events == last_event) refused in
     attempt_event answers old caller number op turn new given on (record { range = asked.0; going = asked.1 }) is

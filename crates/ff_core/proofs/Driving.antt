@@ -1,5 +1,5 @@
 -- The events of a call so far, one more, and the one that answers it.
-use Rattle.std.proofs.Common.{◌≡◌, ◌<◌, ◌≤◌, ◌+◌, ◌^◌, ℕ, refl, ◌∙◌, arith}
+use Rattle.std.proofs.Common.{◌≡◌, ◌<◌, ◌≤◌, ◌+◌, ◌^◌, ℕ, true, refl, ◌∙◌, arith}
 use Rattle.ff_base.specs.declared.numbers.Caller.{Caller}
 use Rattle.ff_base.specs.declared.numbers.PageNo.{PageNo}
 use Rattle.ff_lines.specs.DeviceState.{IsDevice}
@@ -12,6 +12,7 @@ use Rattle.ff_core.specs.CoreSound.{IsCoreSound}
 use Rattle.ff_core.specs.Drives.{IsAnswered, IsDriven, IsEvent, SameSession, cut, most_events, served}
 use Rattle.ff_core.specs.EventsLeft.{events_left}
 use Rattle.ff_core.specs.Hierarchy.{flash_under, lines_under}
+use Rattle.ff_core.specs.Powered.{GoesOffByCut}
 use Rattle.ff_core.specs.declared.turn.Driven.{Driven}
 use Rattle.ff_core.specs.declared.turn.Driven.TheVariants.{Served as DrivenServed, Off as DrivenOff}
 use Rattle.ff_core.specs.declared.turn.Turn.{Turn}
@@ -24,6 +25,7 @@ pub record IsDrivenFor {T E : Type 0} (count : ℕ) (op : Op) (old new : CoreVie
   pub history : new.history ≡ old.history
   pub log : new.log ≡ old.log
   pub same : SameSession old new
+  pub on : (flash_under old.hierarchy).on ≡ true → (flash_under new.hierarchy).on ≡ true
   pub events : new.events ≤ old.events + count
   pub no_fall : (flash_under old.hierarchy).operations ≤ (flash_under new.hierarchy).operations
   pub operations : (flash_under new.hierarchy).operations ≤ (flash_under old.hierarchy).operations + count
@@ -43,6 +45,7 @@ driven_none op core = record {
     picker = refl;
     store = store_same core.hierarchy.device.store;
   };
+  on = λ on. on;
   events = omega arith;
   no_fall = omega arith;
   operations = omega arith;
@@ -76,7 +79,7 @@ session_more a b c first second = record {
 pub driven_more : {T E : Type 0} (count : ℕ) (op : Op) (caller : Caller) (number : ℕ) (page : PageNo) (a b c : CoreView T E)
     → IsDrivenFor count op a b → IsEvent b caller number op (Miss page) c → IsDrivenFor (count + 1) op a c
 driven_more count op caller number page a b c driven event =
-    let less = event.answer.1 in
+    let less = event.answer.fewer in
     let before = driven.left in
     let first = driven.events in
     let second = event.events in
@@ -85,9 +88,10 @@ driven_more count op caller number page a b c driven event =
     let high = driven.operations in
     let higher = event.one_more in
     record {
-      history = event.answer.0 ∙ driven.history;
+      history = event.answer.history ∙ driven.history;
       log = event.log ∙ driven.log;
       same = session_more a b c driven.same event.same;
+      on = λ on. event.answer.on;
       events = omega (arith, first, second);
       no_fall = omega (arith, low, lower);
       operations = omega (arith, high, higher);
@@ -97,8 +101,8 @@ driven_more count op caller number page a b c driven event =
 -- a call is answered over the history that it began with
 answered_since : {T E : Type 0} (a b : CoreView T E) (caller : Caller) (number : ℕ) (op : Op) (driven : Driven) (c : CoreView T E)
     → b.history ≡ a.history → IsAnswered b caller number op driven c → IsAnswered a caller number op driven c
-answered_since a b caller number op driven c same (served reply event faults is history) =
-    served reply event faults is (rw same at history)
+answered_since a b caller number op driven c same (served reply event faults is history on) =
+    served reply event faults is (rw same at history) on
 answered_since a b caller number op driven c same (cut is history off) = cut is (history ∙ same) off
 
 -- the last event
@@ -134,6 +138,16 @@ pub driven_off : {T E : Type 0} (count : ℕ) (op : Op) (caller : Caller) (numbe
     → IsEvent b caller number op Off c → IsDriven a caller number op DrivenOff c
 driven_off count op caller number a b c so_far few event =
     driven_last count op caller number Off DrivenOff a b c so_far few event event.answer
+
+-- the events so far left the power on, so it went off by the last one
+pub driven_power : {T E : Type 0} (count : ℕ) (op : Op) (a b c : CoreView T E) → IsDrivenFor count op a b
+    → GoesOffByCut (flash_under b.hierarchy) (flash_under c.hierarchy)
+    → GoesOffByCut (flash_under a.hierarchy) (flash_under c.hierarchy)
+driven_power count op a b c so_far goes on off =
+    let gone = goes (so_far.on on) off in
+    let no_fall = so_far.no_fall in
+    let counted = gone.counted in
+    record { cut = gone.cut; counted = omega (arith, no_fall, counted) }
 
 -- no call takes more events
 pub driven_ends : {T E : Type 0} (count : ℕ) (op : Op) (a b : CoreView T E) → IsDrivenFor count op a b

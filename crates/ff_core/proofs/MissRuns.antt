@@ -1,8 +1,6 @@
 -- What a step for a missed call leaves, and that it makes at most one operation.
-use Rattle.std.proofs.Common.{◌≡◌, ◌≤◌, ◌+◌, ℕ, true, false, refl, sym, ap, ◌∙◌, arith}
+use Rattle.std.proofs.Common.{◌≡◌, ◌≤◌, ◌+◌, ℕ, true, refl, ap, arith}
 use Rattle.ff_base.specs.declared.numbers.PageNo.{PageNo}
-use Rattle.ff_lines.specs.declared.device.Work.{Work}
-use Rattle.ff_lines.specs.declared.device.Work.TheVariants.{Ready, Stepped, Failed as WorkFailed, Off as WorkOff, Pinned}
 use Rattle.ff_model.specs.declared.op.Op.{Op}
 use Rattle.ff_model.specs.declared.op.Op.TheVariants.{Load, Store, Verify, Mark, Release}
 use Rattle.ff_plb.specs.declared.slot.Way.{Way}
@@ -11,10 +9,9 @@ use Rattle.ff_store.specs.Calls.{SameStore}
 use Rattle.ff_store.specs.PageStore.{PageStoreView}
 use Rattle.ff_core.specs.Hierarchy.{HierarchyView, flash_under}
 use Rattle.ff_core.specs.Misses.{IsActionAtRest, IsMarkAction, IsMissAction, action_in_flight, at_rest, in_flight, retreats, waits_for_slot, works}
-use Rattle.ff_core.specs.Performs.{HasRetreated, IsAdvanced, IsDeviceStep, IsTurnedBack, IsWorkedFor, Performs, progress_of, steps, yields}
+use Rattle.ff_core.specs.Performs.{HasRetreated, IsAdvanced, IsTurnedBack, IsWorkedFor, Performs, steps, yields}
 use Rattle.ff_core.specs.declared.action.Action.{Action}
 use Rattle.ff_core.specs.declared.action.Progress.{Progress}
-use Rattle.ff_core.specs.declared.action.Progress.TheVariants.{Off}
 use Rattle.ff_core.proofs.Owning.{own_store}
 
 -- what a step leaves of a hierarchy, and what it makes of its flash
@@ -24,7 +21,6 @@ pub record RunsStep {T E : Type 0} (h : HierarchyView T E) (progress : Progress)
   pub store : SameStore h.device.store h'.device.store
   pub no_fall : (flash_under h).operations ≤ (flash_under h').operations
   pub one_more : (flash_under h').operations ≤ (flash_under h).operations + 1
-  pub off : progress ≡ Off → (flash_under h').on ≡ false
 
 pub store_same : (s : PageStoreView) → SameStore s s
 store_same s = record {
@@ -39,43 +35,32 @@ store_same s = record {
 
 -- no operation was made
 still_runs : {T E : Type 0} (h : HierarchyView T E) (progress : Progress) (h' : HierarchyView T E)
-    → h'.device.store ≡ h.device.store → h'.policy ≡ h.policy → h'.evictor ≡ h.evictor
-    → (progress ≡ Off → (flash_under h').on ≡ false) → RunsStep h progress h'
-still_runs h progress h' store policy evictor off = record {
+    → h'.device.store ≡ h.device.store → h'.policy ≡ h.policy → h'.evictor ≡ h.evictor → RunsStep h progress h'
+still_runs h progress h' store policy evictor = record {
   policy = policy;
   evictor = evictor;
   store = rw store (store_same h.device.store);
   no_fall = let same = ap (λ (s : PageStoreView). s.world.flash.operations) store in omega arith;
   one_more = let same = ap (λ (s : PageStoreView). s.world.flash.operations) store in omega arith;
-  off = off;
 }
 
 advanced_runs : {T E : Type 0} (slot : ℕ) (h : HierarchyView T E) (progress : Progress) (h' : HierarchyView T E)
     → IsAdvanced slot h progress h' → RunsStep h progress h'
 advanced_runs {T = T} {E = E} slot h progress h' is =
     still_runs h progress h' (own_store h.device h'.device is.moved.own) (ap (λ (g : HierarchyView T E). g.policy) is.rest)
-    (ap (λ (g : HierarchyView T E). g.evictor) is.rest) (λ off. let did = sym is.did ∙ off in absurd (cc))
+    (ap (λ (g : HierarchyView T E). g.evictor) is.rest)
 
 turned_runs : {T E : Type 0} (slot : ℕ) (h : HierarchyView T E) (progress : Progress) (h' : HierarchyView T E)
     → IsTurnedBack slot h progress h' → RunsStep h progress h'
 turned_runs {T = T} {E = E} slot h progress h' is =
     still_runs h progress h' (own_store h.device h'.device is.moved.own) (ap (λ (g : HierarchyView T E). g.policy) is.rest)
-    (ap (λ (g : HierarchyView T E). g.evictor) is.rest) (λ off. let did = sym is.did ∙ off in absurd (cc))
+    (ap (λ (g : HierarchyView T E). g.evictor) is.rest)
 
 retreated_runs : {T E : Type 0} (page : ℕ) (h : HierarchyView T E) (progress : Progress) (h' : HierarchyView T E)
     → HasRetreated page h progress h' → RunsStep h progress h'
 retreated_runs {T = T} {E = E} page h progress h' is =
     still_runs h progress h' (own_store h.device h'.device is.moved.own) (ap (λ (g : HierarchyView T E). g.policy) is.rest)
-    (ap (λ (g : HierarchyView T E). g.evictor) is.rest) (λ off. let did = sym is.did ∙ off in absurd (cc))
-
--- a step of work that came to the power's being off
-worked_off : {T E : Type 0} (work : Work) (page : ℕ) (h h' : HierarchyView T E) → progress_of work ≡ Off
-    → IsDeviceStep page work h h' → (flash_under h').on ≡ false
-worked_off Ready page h h' off step = absurd (cc)
-worked_off Stepped page h h' off step = absurd (cc)
-worked_off (Pinned other) page h h' off step = absurd (cc)
-worked_off WorkFailed page h h' off step = absurd (cc)
-worked_off WorkOff page h h' off step = step.works.on
+    (ap (λ (g : HierarchyView T E). g.evictor) is.rest)
 
 worked_runs : {T E : Type 0} (page : ℕ) (h : HierarchyView T E) (progress : Progress) (h' : HierarchyView T E)
     → (flash_under h).on ≡ true → IsWorkedFor page h progress h' → RunsStep h progress h'
@@ -85,7 +70,6 @@ worked_runs {T = T} {E = E} page h progress h' on (steps work came step free) = 
   store = (step.calls.with_power on).same;
   no_fall = step.kept.no_fall;
   one_more = step.kept.one_more;
-  off = λ off. worked_off work page h h' (sym came ∙ off) step;
 }
 worked_runs page h progress h' on (yields other slot pinned found is) = advanced_runs slot h progress h' is
 

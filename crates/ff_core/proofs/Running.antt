@@ -1,5 +1,6 @@
 -- What an action makes of the flash under the hierarchy: at most one operation.
-use Rattle.std.proofs.Common.{◌≡◌, ◌≤◌, ◌+◌, ℕ, Bool, true, false, Option, Some, None, refl, ap, ◌∙◌, arith}
+use Rattle.std.proofs.Common.{◌≡◌, ◌≤◌, ◌+◌, ℕ, Bool, true, false, not, Option, Some, None, refl, ap, ◌∙◌, arith}
+use Rattle.std.proofs.lemmas.Bool.{true_from_ne_false}
 use Rattle.std.specs.Prelude.{IsSome}
 use Rattle.std.specs.Option.{is_some}
 use Rattle.ff_flash.specs.FlashState.{FlashState, Operates}
@@ -18,6 +19,7 @@ use Rattle.ff_device.specs.WorkRows.{stop_of_work}
 use Rattle.ff_core.specs.CoreSound.{IsSince}
 use Rattle.ff_core.specs.Hierarchy.{HierarchyView, flash_under}
 use Rattle.ff_core.specs.Performs.{MakesCollectTurn, IsAdvanced, IsMoved, IsWorkedFor, Performs, collect_progress, progress_of, steps, yields}
+use Rattle.ff_core.specs.Powered.{IsCutOff}
 use Rattle.ff_core.specs.declared.action.Action.{Action}
 use Rattle.ff_core.specs.declared.action.Action.TheVariants.{Advance, TurnBack, Work as WorkFor, Promote, Retreat, Evict, Collect, Drain}
 use Rattle.ff_core.specs.declared.action.Progress.{Progress}
@@ -37,6 +39,12 @@ Stops (Some FailedStop) old new = new.faults ≡ old.faults + 1
 Stops (Some OffStop) old new =
     (new.on ≡ false) × (IsSome old.plan → new.faults ≡ old.faults)
 
+-- and of a power that was on
+abbrev pub StopsPower : Option FlashStop → FlashState → FlashState → Type 0
+StopsPower None old new = new.on ≡ true
+StopsPower (Some FailedStop) old new = new.on ≡ true
+StopsPower (Some OffStop) old new = IsCutOff old new
+
 -- at most one operation was begun, which stopped so, or didn't stop
 pub record RunsOnce (old : PageStoreView) (stop : Option FlashStop) (new : PageStoreView) : Type 0 where
   pub opened : new.opened ≡ old.opened
@@ -45,6 +53,7 @@ pub record RunsOnce (old : PageStoreView) (stop : Option FlashStop) (new : PageS
   pub one_more : new.world.flash.operations ≤ old.world.flash.operations + 1
   pub since : IsSince old.world.counts new.world.counts
   pub stops : Stops stop old.world.flash new.world.flash
+  pub power : old.world.flash.on ≡ true → StopsPower stop old.world.flash new.world.flash
 
 -- no operation was begun
 pub runs-still : (s : PageStoreView) → RunsOnce s None s
@@ -55,6 +64,7 @@ runs-still s = record {
   one_more = omega arith;
   since = record { reads = omega arith; programs = omega arith; seals = omega arith; erases = omega arith };
   stops = refl;
+  power = λ on. on;
 }
 
 pub runs-same : (old new : PageStoreView) → new ≡ old → RunsOnce old None new
@@ -105,6 +115,18 @@ stops-operated (Some OffStop) old new o = (o.power.off.0 refl, λ planned. o.fau
 stops-rested : (stop : Option FlashStop) (old new : FlashState) → stop ≡ None → new ≡ old → Stops stop old new
 stops-rested stop old new none same = rw none (ap (λ (f : FlashState). f.faults) same)
 
+power-operated : (stop : Option FlashStop) (old new : FlashState) → old.on ≡ true → Operates old stop new → StopsPower stop old new
+power-operated None old new on o =
+    true_from_ne_false new.on (λ off. (let stopped : None ≡ Some OffStop = o.power.off.1 off in absurd (cc)))
+power-operated (Some FailedStop) old new on o =
+    true_from_ne_false new.on (λ off. (let stopped : Some FailedStop ≡ Some OffStop = o.power.off.1 off in absurd (cc)))
+power-operated (Some OffStop) old new on o =
+    let counted = o.power.counted on in
+    record { cut = o.power.cut on ∙ ap not (o.power.off.0 refl); counted = omega arith }
+
+power-rested : (stop : Option FlashStop) (old new : FlashState) → stop ≡ None → new ≡ old → old.on ≡ true → StopsPower stop old new
+power-rested stop old new none same on = rw none (ap (λ (f : FlashState). f.on) same ∙ on)
+
 -- the store's call with the power on
 runs-taken : (old new : PageStoreView) (stop : Option FlashStop) → old.world.flash.on ≡ true → new.opened ≡ old.opened
     → new.world.flash.plan ≡ old.world.flash.plan → Takes old.world stop new.world → RunsOnce old stop new
@@ -117,6 +139,7 @@ runs-taken old new stop on opened plan (made kind makes) =
       one_more = omega arith;
       since = rw makes.counts (since-begun kind old.world.counts);
       stops = stops-operated stop old.world.flash new.world.flash makes.flash;
+      power = λ was. power-operated stop old.world.flash new.world.flash was makes.flash;
     }
 runs-taken old new stop on opened plan (rested flash counts none) =
     let faults = ap (λ (f : FlashState). f.faults) flash in
@@ -128,6 +151,7 @@ runs-taken old new stop on opened plan (rested flash counts none) =
       one_more = omega arith;
       since = since-same old.world.counts new.world.counts counts;
       stops = stops-rested stop old.world.flash new.world.flash none flash;
+      power = power-rested stop old.world.flash new.world.flash none flash;
     }
 
 pub runs-called : (old new : PageStoreView) (stop : Option FlashStop) → old.world.flash.on ≡ true → CallsOnce old stop new

@@ -11,7 +11,6 @@ use Rattle.ff_core.specs.Hierarchy.{flash_under}
 use Rattle.ff_core.specs.Losing.{core_off}
 use Rattle.ff_core.specs.Until.{GoesUntil, IsEventUntil}
 use Rattle.ff_core.specs.declared.turn.Turn.TheVariants.{Miss, Off}
-use Rattle.ff_core.proofs.Powered.{stays_more}
 use Rattle.ff_core.proofs.PoweredDown.{off_down, off_same}
 
 -- the power was cut in place of an event
@@ -53,14 +52,15 @@ until_cut stop core at = record { stops = λ same. (refl, refl); goes = λ other
 
 -- no event so far
 pub until_none : {T E : Type 0} (stop : Option ℕ) (core : CoreView T E) → GoesUntil stop core core
-until_none stop core = record { not_past = λ number is low. low; on = λ uncut on. on }
+until_none stop core = record { not_past = λ number is low. low; on = λ on. on; no_fall = omega arith }
 
 -- one more event missed a page
 pub until_more : {T E : Type 0} (stop : Option ℕ) (caller : Caller) (number : ℕ) (op : Op) (page : PageNo) (a b c : CoreView T E)
-    → (flash_under b.hierarchy).plan ≡ (flash_under a.hierarchy).plan → GoesUntil stop a b
-    → IsEvent b caller number op (Miss page) c → IsEventUntil stop b (Miss page) c → GoesUntil stop a c
-until_more stop caller number op page a b c plan before event until =
+    → GoesUntil stop a b → IsEvent b caller number op (Miss page) c → IsEventUntil stop b (Miss page) c → GoesUntil stop a c
+until_more stop caller number op page a b c before event until =
     let other : stop ≡ Some b.events → ⊥ = λ at. (let off = (until.stops at).0 in absurd (cc)) in
+    let low = before.no_fall in
+    let lower = event.no_fall in
     record {
       not_past = λ at is low.
           (let reached : b.events ≤ at = before.not_past at is low in
@@ -68,5 +68,6 @@ until_more stop caller number op page a b c plan before event until =
           let one : c.events ≤ b.events + 1 = event.events in
           let less : b.events < at = lt_of_le-ne reached differs in
           omega (arith, less, one));
-      on = stays_more (flash_under a.hierarchy) (flash_under b.hierarchy) (flash_under c.hierarchy) plan before.on (until.goes other);
+      on = λ on. event.answer.on;
+      no_fall = omega (arith, low, lower);
     }

@@ -1,5 +1,5 @@
--- What a background turn leaves of a session, and that the log has it.
-use Rattle.std.specs.Prelude.{◌+◌, ◌≤◌, ◌≡◌, false}
+-- What a background turn leaves of a session, its log and the power.
+use Rattle.std.specs.Prelude.{◌+◌, ◌≤◌, ◌≡◌, true, false}
 use Rattle.ff_model.specs.declared.counts.Kind.{Kind}
 use Rattle.ff_core.specs.Backs.{turned_now, with_logged}
 use Rattle.ff_core.specs.Core.{CoreView}
@@ -8,12 +8,11 @@ use Rattle.ff_core.specs.Hierarchy.{flash_under}
 use Rattle.ff_core.specs.declared.log.Back.{Back}
 use Rattle.ff_core.specs.declared.log.Back.TheVariants.{Off}
 
--- the log has the turn; or the power is off, and the log is as before
-pub data IsLogged {T E : Type 0} (old : CoreView T E) (kind : Kind) (back : Back) (new : CoreView T E)
-    : Type 0 where
-  made : new.log ≡ with_logged (turned_now old kind back) old.log → IsLogged old kind back new
-  cut : back ≡ Off → new.log ≡ old.log → (flash_under new.hierarchy).on ≡ false
-      → IsLogged old kind back new
+-- the log has the turn and the power is on; or the power is off, and the log is as before
+abbrev pub IsLogged : {T E : Type 0} → CoreView T E → Kind → Back → CoreView T E → Type 0
+IsLogged old kind Off new = (new.log ≡ old.log) × ((flash_under new.hierarchy).on ≡ false)
+IsLogged old kind back new = (new.log ≡ with_logged (turned_now old kind back) old.log)
+    × ((flash_under new.hierarchy).on ≡ true)
 
 -- one event of a background turn
 pub record IsBackEvent {T E : Type 0} (old : CoreView T E) (kind : Kind) (back : Back)

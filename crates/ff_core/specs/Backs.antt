@@ -1,6 +1,7 @@
 -- What a background turn makes of a core.
 use Rattle.std.specs.Prelude.{ℕ, ◌≡◌, ◌==◌, ◌∷◌, ◌++◌, [], Bool, true, false, length, Option, Some, None}
 use Rattle.ff_base.specs.Count.{last_event}
+use Rattle.ff_memory.specs.declared.access.What.{What}
 use Rattle.ff_memory.specs.declared.access.What.TheVariants.{Worked}
 use Rattle.ff_model.specs.declared.counts.Kind.{Kind}
 use Rattle.ff_core.specs.Choices.{IsChoice}
@@ -30,10 +31,14 @@ with_logged turn log = record log { turns = log.turns ++ turn ∷ [] }
 abbrev pub rested : {T E : Type 0} → CoreView T E → Kind → Back → CoreView T E
 rested core kind back = record core { log = with_logged (turned_now core kind back) core.log }
 
--- what a turn answers for what its action came to: a step of work is one, also where another page made its step for it
+-- a step of work is one, also where another page made its step for it
+abbrev pub did_by : Action → What → What
+did_by (Work page) what = Worked
+did_by action what = what
+
+-- what a turn answers for what its action came to
 abbrev pub back_of : Action → Progress → Back
-back_of (Work page) (ProgressDid what) = Did Worked
-back_of action (ProgressDid what) = Did what
+back_of action (ProgressDid what) = Did (did_by action what)
 back_of action ProgressFailed = Failed
 back_of action ProgressOff = Off
 

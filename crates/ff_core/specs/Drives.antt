@@ -1,5 +1,5 @@
 -- What the events of one call, from its first to the one that answers it, make of a core.
-use Rattle.std.specs.Prelude.{ℕ, ◌+◌, ◌*◌, ◌<◌, ◌≤◌, ◌≡◌, false}
+use Rattle.std.specs.Prelude.{ℕ, ◌+◌, ◌*◌, ◌<◌, ◌≤◌, ◌≡◌, true, false}
 use Rattle.ff_base.specs.declared.geometry.Geometry.{Geometry}
 use Rattle.ff_base.specs.declared.numbers.Caller.{Caller}
 use Rattle.ff_model.specs.declared.op.Op.{Op}
@@ -32,7 +32,7 @@ pub record SameSession {T E : Type 0} (old new : CoreView T E) : Type 0 where
   pub picker : new.hierarchy.evictor.picker ≡ old.hierarchy.evictor.picker
   pub store : SameStore old.hierarchy.device.store new.hierarchy.device.store
 
--- the call was answered, and the history has its entry; or the power is off, and the history is as before
+-- the call was answered, the history has its entry and the power is on; or the power is off, and the history is as before
 pub data IsAnswered {T E : Type 0} (old : CoreView T E) (caller : Caller) (number : ℕ) (op : Op)
     (driven : Driven) (new : CoreView T E) : Type 0 where
   served : (reply : _) (event faults : ℕ) → driven ≡ Served reply
@@ -45,18 +45,22 @@ pub data IsAnswered {T E : Type 0} (old : CoreView T E) (caller : Caller) (numbe
         reply = reply;
         faults = faults;
       }) old.history
-      → IsAnswered old caller number op driven new
+      → (flash_under new.hierarchy).on ≡ true → IsAnswered old caller number op driven new
   cut : driven ≡ Off → new.history ≡ old.history → (flash_under new.hierarchy).on ≡ false
       → IsAnswered old caller number op driven new
+
+-- an event didn't answer the call: fewer events are left, and the power is on
+pub record LeavesFewer {T E : Type 0} (op : Op) (old new : CoreView T E) : Type 0 where
+  pub history : new.history ≡ old.history
+  pub fewer : events_left op new.hierarchy < events_left op old.hierarchy
+  pub on : (flash_under new.hierarchy).on ≡ true
 
 -- what an event of a call comes to: it answers the call, or it leaves fewer events
 abbrev pub AnswersOrLeaves : {T E : Type 0} → Turn → CoreView T E → Caller → ℕ → Op → CoreView T E
     → Type 0
 AnswersOrLeaves (TurnServed reply) old caller number op new =
     IsAnswered old caller number op (Served reply) new
-AnswersOrLeaves (Miss page) old caller number op new =
-    (new.history ≡ old.history)
-    × (events_left op new.hierarchy < events_left op old.hierarchy)
+AnswersOrLeaves (Miss page) old caller number op new = LeavesFewer op old new
 AnswersOrLeaves TurnOff old caller number op new = IsAnswered old caller number op Off new
 
 -- one event of a call

@@ -13,11 +13,11 @@ pub mod Log
 pub mod Losing
 pub mod Misses
 pub mod Performs
+pub mod Powered
 pub mod Record
 pub mod RecordFields
 pub mod Resume
 pub mod Serving
 pub mod Tally
 pub mod Turns
-pub mod Uncut
 pub mod Until

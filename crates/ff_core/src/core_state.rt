@@ -12,8 +12,8 @@ ghost use Rattle.ff_core.specs.Core.{counts_of, spare_calls, spare_turns};
 ghost use Rattle.ff_core.specs.CoreSound.{IsCoreSound};
 ghost use Rattle.ff_core.specs.Fresh.{IsFreshFlash, fresh_core};
 ghost use Rattle.ff_core.specs.Hierarchy.{flash_under, lines_under};
+ghost use Rattle.ff_core.specs.Powered.{GoesOffByCut};
 ghost use Rattle.ff_core.specs.Turns.{IsTurn};
-ghost use Rattle.ff_core.specs.Uncut.{StaysOn};
 
 mod driving;
 mod ending;
@@ -113,7 +113,8 @@ impl<F: Flash, T: Tune, E: Pick> Core<F, T, E> {
         ensures back { IsBack (flash_under self.old.hierarchy).on E.score Promote self.old result
             self.new }
         ensures event { IsBackEvent self.old Promote result self.new }
-        ensures on { StaysOn (flash_under self.old.hierarchy) (flash_under self.new.hierarchy) }
+        ensures power { GoesOffByCut (flash_under self.old.hierarchy)
+            (flash_under self.new.hierarchy) }
     {
         self.parts_known();
         self.state.back(Kind::Promote)
@@ -126,7 +127,8 @@ impl<F: Flash, T: Tune, E: Pick> Core<F, T, E> {
         ensures back { IsBack (flash_under self.old.hierarchy).on E.score Evict self.old result
             self.new }
         ensures event { IsBackEvent self.old Evict result self.new }
-        ensures on { StaysOn (flash_under self.old.hierarchy) (flash_under self.new.hierarchy) }
+        ensures power { GoesOffByCut (flash_under self.old.hierarchy)
+            (flash_under self.new.hierarchy) }
     {
         self.parts_known();
         self.state.back(Kind::Evict)
@@ -139,7 +141,8 @@ impl<F: Flash, T: Tune, E: Pick> Core<F, T, E> {
         ensures back { IsBack (flash_under self.old.hierarchy).on E.score Collect self.old result
             self.new }
         ensures event { IsBackEvent self.old Collect result self.new }
-        ensures on { StaysOn (flash_under self.old.hierarchy) (flash_under self.new.hierarchy) }
+        ensures power { GoesOffByCut (flash_under self.old.hierarchy)
+            (flash_under self.new.hierarchy) }
     {
         self.parts_known();
         self.state.back(Kind::Collect)
@@ -152,7 +155,8 @@ impl<F: Flash, T: Tune, E: Pick> Core<F, T, E> {
         ensures back { IsBack (flash_under self.old.hierarchy).on E.score Drain self.old result
             self.new }
         ensures event { IsBackEvent self.old Drain result self.new }
-        ensures on { StaysOn (flash_under self.old.hierarchy) (flash_under self.new.hierarchy) }
+        ensures power { GoesOffByCut (flash_under self.old.hierarchy)
+            (flash_under self.new.hierarchy) }
     {
         self.parts_known();
         self.state.back(Kind::Drain)

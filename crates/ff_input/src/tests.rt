@@ -11,7 +11,7 @@ use std::test::Fail;
 // An input, and the number of its rows or why it is refused.
 type Answer = (&'static [u8], Result<usize, BadInput>);
 
-static ANSWERS: [Answer; 27] = [
+static ANSWERS: [Answer; 29] = [
     // The separator is the first line that is exactly three dashes.
     (b"---\ncaller,op,a,b\n", Ok(0)),
     (b"---\r\ncaller,op,a,b\n0,verify,,", Ok(1)),
@@ -50,15 +50,15 @@ static ANSWERS: [Answer; 27] = [
         Err(BadInput::BadSettings(BadSettings::Key)),
     ),
     (
-        b"cut = [{at = 2, mask = 0, arrive = 0}]\n---\ncaller,op,a,b\n",
-        Err(BadInput::BadSettings(BadSettings::Key)),
-    ),
-    (
         b"cut = [{at = 0, mask = 0, arrive = 0}]\n---\ncaller,op,a,b\n",
         Err(BadInput::BadSettings(BadSettings::Bound(SettingName::Cut))),
     ),
     (b"cut = []\n---\ncaller,op,a,b\n", Ok(0)),
-    // Rows of calls and turns are run.
+    (
+        b"cut = [{at = 2, mask = 0, arrive = 0}]\n---\ncaller,op,a,b\n",
+        Ok(0),
+    ),
+    // Rows are read under good settings.
     (b"ways = 16\n---\n", Err(BadInput::BadRow(0))),
     (
         b"---\ncaller,op,a,b\n63,verify,,\n-,promote,1,\n-,evict,2,\n-,collect,3,\n-,drain,4,\n",
@@ -68,13 +68,26 @@ static ANSWERS: [Answer; 27] = [
         b"---\ncaller,op,a,b\n64,verify,,\n",
         Err(BadInput::BadRow(1)),
     ),
-    (
-        b"---\ncaller,op,a,b\n-,power,0,\n",
-        Err(BadInput::BadRow(1)),
-    ),
+    (b"---\ncaller,op,a,b\n-,power,0,\n", Ok(1)),
     (
         b"---\ncaller,op,a,b\n0,verify,,\n-,power,0,\n0,fly,,\n",
         Err(BadInput::BadRow(3)),
+    ),
+    // The power is lost 16 times at most, by rows and by cuts.
+    (
+        b"---\ncaller,op,a,b\n\
+        -,power,0,\n-,power,0,\n-,power,0,\n-,power,0,\n-,power,0,\n\
+        -,power,0,\n-,power,0,\n-,power,0,\n-,power,0,\n-,power,0,\n\
+        -,power,0,\n-,power,0,\n-,power,0,\n-,power,0,\n-,power,0,\n\
+        -,power,0,\n-,power,0,\n",
+        Err(BadInput::BadRow(17)),
+    ),
+    (
+        b"cut = [{at = 2, mask = 0, arrive = 0}, {at = 5, mask = 1, arrive = 3}]\n---\ncaller,op,a,b\n\
+        -,power,0,\n-,power,0,\n-,power,0,\n-,power,0,\n-,power,0,\n\
+        -,power,0,\n-,power,0,\n-,power,0,\n-,power,0,\n-,power,0,\n\
+        -,power,0,\n-,power,0,\n-,power,0,\n-,power,0,\n-,power,0,\n",
+        Err(BadInput::BadRow(15)),
     ),
 ];
 

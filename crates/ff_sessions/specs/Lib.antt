@@ -3,7 +3,6 @@ pub mod Closing
 pub mod Following
 pub mod Items
 pub mod Making
-pub mod Powered
 pub mod Remounts
 pub mod RowStops
 pub mod Sessions

@@ -3,12 +3,12 @@ use Rattle.std.specs.Prelude.{ℕ, ◌+◌, ◌*◌, ◌^◌, ◌<◌, ◌≤◌
 use Rattle.ff_core.specs.Core.{CoreView, spare_calls, spare_turns}
 use Rattle.ff_core.specs.Drives.{SameSession}
 use Rattle.ff_core.specs.Hierarchy.{flash_under}
+use Rattle.ff_core.specs.Powered.{IsCutOff}
 use Rattle.ff_flash.specs.FlashState.{FlashState}
 use Rattle.ff_model.specs.Callers.{AreNumbered, entries_of}
 use Rattle.ff_model.specs.declared.history.Entry.{Entry}
 use Rattle.ff_trace.specs.declared.row.Row.{Row}
 use Rattle.ff_sessions.specs.Items.{BeginWithWork, IsWork, Item, call, turn}
-use Rattle.ff_sessions.specs.Powered.{IsCutOff}
 use Rattle.ff_sessions.specs.Stops.{IsStopWithin, items_at, items_behind, stop_items}
 use Rattle.ff_sessions.specs.declared.stop.Place.{Place}
 use Rattle.ff_sessions.specs.declared.stop.Stop.{Stop}

@@ -108,7 +108,7 @@ pub fn run<T: Tune + Drop, E: Pick + Drop>(
 ) -> Result<Vec<Session>, NoMemory>
     requires geometry { IsWithinLimits geometry }
     requires plan { IsPlan (planned_of plan) }
-    requires rows { AreWithin (vec_len plan.cuts) rows.now }
+    requires rows { AreWithin (length plan.cuts.items) rows.now }
     ensures sessions { IfOk result (λ sessions. AreSessionsOf
         (setup_with geometry (planned_of plan) tuner.floor) rows.now sessions.items) }
     ensures few { IfOk result (λ sessions. vec_len sessions ≤ 17) }

@@ -3,7 +3,7 @@ ghost use Rattle.std.specs.Prelude.{◌≡◌, ◌<◌, ◌≤◌, ◌-◌, [], 
 ghost use Rattle.ff_core.specs.BackEvents.{IsBackEvent};
 ghost use Rattle.ff_core.specs.Core.{spare_calls, spare_turns};
 ghost use Rattle.ff_core.specs.Hierarchy.{flash_under};
-ghost use Rattle.ff_sessions.specs.Powered.{GoesOffByCut};
+ghost use Rattle.ff_core.specs.Powered.{GoesOffByCut};
 ghost use Rattle.ff_trace.specs.Within.{IsOfCaller};
 ghost use Rattle.ff_trace.specs.declared.row.Row.TheVariants as rows;
 ghost use Rattle.ff_sessions.specs.Items.{turn};

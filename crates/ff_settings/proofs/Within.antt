@@ -2,7 +2,7 @@
 use Rattle.std.proofs.Common.{◌≡◌, ◌<◌, ◌≤◌, ◌+◌, ℕ, Bool, true, false, List, [], ◌∷◌, length, Option, Some, None, cond, refl, sym, subst, ap, inl, inr, arith, lit<}
 use Rattle.std.specs.Prelude.{not, find, nat_le, ◌&&◌, ◌==◌, IfSome}
 use Rattle.std.specs.List.{AllByRecursion, list_all}
-use Rattle.std.proofs.lemmas.Bool.{and_parts, cases_Bool, cases_eq}
+use Rattle.std.proofs.lemmas.Bool.{and_parts, cases_Bool, cases_eq, leb-true}
 use Rattle.std.proofs.lemmas.Bool.Decides.{nat_tests}
 use Rattle.ff_base.specs.Count.{last_event}
 use Rattle.ff_base.specs.Geometry.{IsAllowed, IsFirstBroken, IsWithinLimits, greatest_of, least_of, rank_of, value_of}
@@ -212,5 +212,6 @@ sound s none =
         cuts = rises 1 (cut_numbers s.plan.cuts) rise;
         apart = λ n listed. apart n s.plan.fail s.plan.cuts beside listed;
       };
+      few_cuts = leb-true _ _ number;
       power_event = fits s.power_event later.1.1.0;
     }

@@ -77,4 +77,5 @@ first_beyond settings = find (λ name. not (is_within settings name)) setting_na
 pub record IsSettingsSound (settings : SettingsView) : Type 0 where
   pub geometry : IsWithinLimits settings.geometry
   pub plan : IsPlan settings.plan
+  pub few_cuts : length settings.plan.cuts ≤ most_cuts
   pub power_event : IfSome settings.power_event (λ event. event ≤ last_event)

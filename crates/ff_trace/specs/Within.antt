@@ -1,10 +1,10 @@
--- What the rows of a trace are within.
-use Rattle.std.specs.Prelude.{ℕ, ◌+◌, ◌*◌, ◌<◌, ◌≤◌, ⊤, Bool, true, false, List, All, length, count_by, sum_by}
+-- What the rows of every trace are within.
+use Rattle.std.specs.Prelude.{ℕ, ◌+◌, ◌*◌, ◌<◌, ◌≤◌, Bool, true, false, ⊤, List, All, length, count_by, sum_by}
 use Rattle.ff_trace.specs.Tally.{most_losses, most_rows, most_turns}
 use Rattle.ff_trace.specs.declared.row.Row.{Row}
 use Rattle.ff_trace.specs.declared.row.Row.TheVariants.{Call, Turns, Power}
 
--- a call of one of 64 callers, or another row
+-- a call is of one of the callers, which are 64
 abbrev pub IsOfCaller : Row → Type 0
 IsOfCaller (Call caller op) = caller.0 < 64
 IsOfCaller (Turns kind count) = ⊤
@@ -19,11 +19,13 @@ turns_in_row (Power arrive) = 0
 abbrev pub turns_asked : List Row → ℕ
 turns_asked rows = sum_by turns_in_row rows
 
+-- a loss of power
 abbrev pub is_power : Row → Bool
+is_power (Call caller op) = false
+is_power (Turns kind count) = false
 is_power (Power arrive) = true
-is_power row = false
 
--- what a run of rows under settings with so many cuts may count on
+-- what a run of these rows under settings with so many cuts may count on
 pub record AreWithin (cuts : ℕ) (rows : List Row) : Type 0 where
   pub callers : All IsOfCaller rows
   pub few : length rows ≤ most_rows

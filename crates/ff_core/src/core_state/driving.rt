@@ -3,7 +3,7 @@ ghost use Rattle.std.specs.Prelude.{◌≡◌, ◌<◌, ◌^◌};
 ghost use Rattle.ff_core.specs.Core.{spare_calls};
 ghost use Rattle.ff_core.specs.Drives.{IsDriven, IsEvent, most_events};
 ghost use Rattle.ff_core.specs.Hierarchy.{flash_under};
-ghost use Rattle.ff_core.specs.Uncut.{StaysOn};
+ghost use Rattle.ff_core.specs.Powered.{GoesOffByCut};
 
 use super::Core;
 use crate::turn::{Driven, Turn};
@@ -36,11 +36,12 @@ pub(super) fn most_events(geometry: &Geometry, op: &Op) -> u32
 
 impl<F: Flash, T: Tune, E: Pick> Core<F, T, E> {
     // One event of a call.
-    #[tactic(auto, using(crate::proofs::DriveEvents::turn_event, crate::proofs::Powered::turn_on))]
+    #[tactic(auto, using(crate::proofs::DriveEvents::turn_event, crate::proofs::Powered::turn_cut))]
     pub(super) fn event(&mut self, caller: Caller, number: u32, op: &Op) -> Turn
         requires spare { 0 < spare_calls self.old }
         ensures event { IsEvent self.old caller number op.now result self.new }
-        ensures on { StaysOn (flash_under self.old.hierarchy) (flash_under self.new.hierarchy) }
+        ensures power { GoesOffByCut (flash_under self.old.hierarchy)
+            (flash_under self.new.hierarchy) }
     {
         self.parts_known();
         let turn = self.turn(caller, number, op);
@@ -53,7 +54,8 @@ impl<F: Flash, T: Tune, E: Pick> Core<F, T, E> {
     pub fn drive(&mut self, caller: Caller, number: u32, op: &Op) -> Driven
         requires spare { 0 < spare_calls self.old }
         ensures driven { IsDriven self.old caller number op.now result self.new }
-        ensures on { StaysOn (flash_under self.old.hierarchy) (flash_under self.new.hierarchy) }
+        ensures power { GoesOffByCut (flash_under self.old.hierarchy)
+            (flash_under self.new.hierarchy) }
     {
         self.parts_known();
         for _event in 0..most_events(self.geometry(), op) {

@@ -47,7 +47,7 @@ loop-event-preserved g c = record {
       c.loop-event.invariant.driven c.in-Miss.ensures.event;
   until =
       until_more c.args.stop c.args.caller c.args.number c.args.op.now _ c.args.self.now c.loop-event.self c.event_until.new.self
-      c.loop-event.invariant.driven.same.store.plan c.loop-event.invariant.until c.in-Miss.ensures.event c.in-Miss.ensures.until;
+      c.loop-event.invariant.until c.in-Miss.ensures.event c.in-Miss.ensures.until;
 }
 
 pub unreachable-requires : goal.unreachable-requires

@@ -1,8 +1,8 @@
--- When the power goes off.
+-- That the power goes off by an operation that is cut, and by nothing else.
 use Rattle.std.specs.Prelude.{◌<◌, ◌≡◌, true, false}
 use Rattle.ff_flash.specs.FlashState.{FlashState}
 
--- an operation that was cut turned the power off
+-- an operation was made, and its cut turned the power off
 pub record IsCutOff (old new : FlashState) : Type 0 where
   pub cut : new.cut ≡ true
   pub counted : old.operations < new.operations
