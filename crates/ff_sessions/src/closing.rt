@@ -54,17 +54,17 @@ fn closed<T: Tune, E: Pick>(
     stop: Option<MountStop>,
 ) -> Closed<T, E>
     ensures { result ≡ record {
-        session = record {
-            base = lost.base;
-            account = lost.account;
-            nv = lost.nv;
-            flash = lost.flash;
-            image = image;
-            stop = stop;
-        };
-        mounted = mounted;
-        tuner = lost.tuner;
-        picker = lost.picker;
+      session = record {
+        base = lost.base;
+        account = lost.account;
+        nv = lost.nv;
+        flash = lost.flash;
+        image = image;
+        stop = stop;
+      };
+      mounted = mounted;
+      tuner = lost.tuner;
+      picker = lost.picker;
     } }
 {
     Closed {
