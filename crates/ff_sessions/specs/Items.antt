@@ -1,5 +1,5 @@
 -- The items of a trace: what a run does, one after the other.
-use Rattle.std.specs.Prelude.{ℕ, ◌+◌, ◌≡◌, ⊤, ⊥, List, [], ◌∷◌, ◌++◌, replicate}
+use Rattle.std.specs.Prelude.{ℕ, ◌+◌, ◌≡◌, ⊤, List, [], ◌∷◌, ◌++◌, replicate}
 use Rattle.std.specs.List.{flat_map}
 use Rattle.ff_base.specs.declared.numbers.Caller.{Caller}
 use Rattle.ff_core.specs.declared.log.Turned.{Turned}
