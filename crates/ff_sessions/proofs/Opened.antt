@@ -1,5 +1,5 @@
 -- What a session is when it begins.
-use Rattle.std.proofs.Common.{◌≡◌, ◌+◌, ℕ, true, List, length, Some, refl, sym, ap, ◌∙◌, subst}
+use Rattle.std.proofs.Common.{◌≡◌, ◌+◌, ℕ, true, List, length, Some, refl, sym, ap, ◌∙◌, subst, arith}
 use Rattle.ff_base.specs.Geometry.{IsWithinLimits}
 use Rattle.ff_base.specs.declared.geometry.Geometry.{Geometry}
 use Rattle.ff_cache.specs.Cache.{CacheView}
@@ -55,7 +55,7 @@ pub first_room : {T E : Type 0} (g : Geometry) (flash : FlashState) (tuner : Tun
     → core ≡ fresh_core flash g tuner picker room → HasRoomFor core (items_of rows)
 first_room {T} {E} g flash tuner picker room core rows calls turns is =
     subst (λ (c : CoreView T E). HasRoomFor c (items_of rows)) (sym is)
-    (room_for_all (fresh_core flash g tuner picker room) rows calls turns)
+    (room_for_all (fresh_core flash g tuner picker room) rows (omega arith) (omega arith))
 
 -- a session over mounted parts begins with what their flash has counted so far
 resumed_begun : {T E : Type 0} (g : Geometry) (store : PageStoreView) (cache : CacheView) (marks : List ℕ) (base : Content)
@@ -92,4 +92,4 @@ pub next_room : {T E : Type 0} (g : Geometry) (store : PageStoreView) (cache : C
     → core ≡ resumed_core store cache marks base g tuner picker room event → (made : ℕ) → HasRoomFor core (items_from made rows)
 next_room {T} {E} g store cache marks base tuner picker room event core rows calls turns is made =
     subst (λ (c : CoreView T E). HasRoomFor c (items_from made rows)) (sym is)
-    (room_for_left (resumed_core store cache marks base g tuner picker room event) rows calls turns made)
+    (room_for_left (resumed_core store cache marks base g tuner picker room event) rows (omega arith) (omega arith) made)

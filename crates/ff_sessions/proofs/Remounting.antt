@@ -18,6 +18,7 @@ use Rattle.ff_mount.specs.Mounted.{IsMounted, mount_probes}
 use Rattle.ff_mount.specs.Reading.{GoesAsTold, GoesByTold, after_reads}
 use Rattle.ff_mount.specs.Sound.{AreSound}
 use Rattle.ff_mount.specs.Stops.{StopsBy}
+use Rattle.ff_mount.specs.declared.image.Mounted.{Mounted}
 use Rattle.ff_mount.specs.declared.stop.MountStop.{MountStop}
 use Rattle.ff_scan.specs.Probing.{first_stop}
 use Rattle.ff_store.specs.PageStore.{PageStoreView}
@@ -88,14 +89,14 @@ resume_imaged g nv flash s cache marks reads event limits few sound mounted most
     (omega arith) not_past
 
 -- the parts of a mount, and the image of them
-pub imaged : (g : Geometry) (nv : NvView) (flash : FlashState) (s t : PageStoreView) (cache : CacheView) (marks : List ℕ)
+over_mounted : (g : Geometry) (nv : NvView) (flash : FlashState) (s t : PageStoreView) (cache : CacheView) (marks : List ℕ)
     (image : Content) → IsWithinLimits g → flash.operations ≤ 2 ^ 61 → AreSound g nv flash → IsMounted g nv flash s cache marks
     → IfSome flash.plan (λ plan. first_stop plan flash.operations (mount_probes g) ≡ None)
     → image ≡ held_content g.pages (nv_of cache marks) s.world.flash.cells
     → t ≡ after_reads s (image_reads g.pages (ways_of cache.slots) s.world.flash.cells)
     → GoesAsTold s.world.flash (image_reads g.pages (ways_of cache.slots) s.world.flash.cells) (Ok image)
     → IsRemounted g nv flash t cache marks image
-imaged g nv flash s t cache marks image limits few sound mounted unplanned is read goes =
+over_mounted g nv flash s t cache marks image limits few sound mounted unplanned is read goes =
     let reads = image_reads g.pages (ways_of cache.slots) s.world.flash.cells in
     let same = mounted_reads g nv flash s cache marks mounted in
     let most = count_below-most (is_read (ways_of cache.slots) s.world.flash.cells) g.pages in
@@ -110,6 +111,18 @@ imaged g nv flash s t cache marks image limits few sound mounted unplanned is re
           unplanned (told_after g nv flash s cache marks (Ok image) mounted goes);
     }
 
+-- the same, where the image left the cache and the marks
+pub imaged : {F : Type 0} (g : Geometry) (nv : NvView) (flash : FlashState) (old new : Mounted F) (image : Content)
+    → IsWithinLimits g → flash.operations ≤ 2 ^ 61 → AreSound g nv flash → IsMounted g nv flash old.store old.cache old.marks
+    → IfSome flash.plan (λ plan. first_stop plan flash.operations (mount_probes g) ≡ None)
+    → image ≡ held_content g.pages (nv_of old.cache old.marks) old.store.world.flash.cells
+    → new.store ≡ after_reads old.store (image_reads g.pages (ways_of old.cache.slots) old.store.world.flash.cells)
+    → GoesAsTold old.store.world.flash (image_reads g.pages (ways_of old.cache.slots) old.store.world.flash.cells) (Ok image)
+    → new ≡ record old { store = new.store } → IsRemounted g nv flash new.store new.cache new.marks image
+imaged {F} g nv flash old new image limits few sound mounted unplanned is read goes kept =
+    subst (λ (m : Mounted F). IsRemounted g nv flash new.store m.cache m.marks image) (sym kept)
+    (over_mounted g nv flash old.store new.store old.cache old.marks image limits few sound mounted unplanned is read goes)
+
 -- the image was stopped
 pub image_stopped : (g : Geometry) (nv : NvView) (flash : FlashState) (s : PageStoreView) (cache : CacheView) (marks : List ℕ)
     (stop : MountStop) → IsMounted g nv flash s cache marks
@@ -121,7 +134,8 @@ image_stopped g nv flash s cache marks stop mounted unplanned goes =
     (told_after g nv flash s cache marks (Err stop) mounted goes)
 
 -- the mount was stopped
-pub mount_stopped : (g : Geometry) (nv : NvView) (flash : FlashState) (stop : MountStop)
-    → IfSome flash.plan (λ plan. StopsBy plan flash.operations (mount_probes g) stop) → IsStoppedRemount g nv flash stop
-mount_stopped g nv flash stop stops =
-    stopped_first flash.plan flash.operations (mount_probes g) (image_reads g.pages nv.slots flash.cells) stop stops
+pub mount_stopped : (g : Geometry) (nv : NvView) (flash : FlashState) (why stop : MountStop)
+    → IfSome flash.plan (λ plan. StopsBy plan flash.operations (mount_probes g) why) → stop ≡ why → IsStoppedRemount g nv flash stop
+mount_stopped g nv flash why stop stops is =
+    subst (λ (x : MountStop). IsStoppedRemount g nv flash x) (sym is)
+    (stopped_first flash.plan flash.operations (mount_probes g) (image_reads g.pages nv.slots flash.cells) why stops)

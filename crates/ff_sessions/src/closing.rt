@@ -41,13 +41,13 @@ pub fn close<T: Tune + Drop, E: Pick + Drop>(
     let flash = lost.flash.copy(alloc)?;
     flash_known(&flash);
     match remount(alloc, nv, flash, geometry) {
-        Ok(Remounted { mounted, image }) => Ok(closed(lost, Some(mounted), Some(image), None)),
+        Ok(Remounted { mounted, image }) => Ok(kept(lost, Some(mounted), Some(image), None)),
         Err(MountStop::NoMemory) => Err(NoMemory),
-        Err(stop) => Ok(closed(lost, None, None, Some(stop))),
+        Err(stop) => Ok(kept(lost, None, None, Some(stop))),
     }
 }
 
-fn closed<T: Tune, E: Pick>(
+fn kept<T: Tune, E: Pick>(
     lost: Lost<SimFlash, T, E>,
     mounted: Option<Mounted<SimFlash>>,
     image: Option<Image>,
