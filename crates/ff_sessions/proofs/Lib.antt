@@ -1,5 +1,4 @@
 pub mod Asked
-pub mod Kept
 pub mod Making
 pub mod Numbers
 pub mod Opened
