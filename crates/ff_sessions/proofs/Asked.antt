@@ -9,7 +9,7 @@ use Rattle.ff_model.specs.declared.counts.Kind.{Kind}
 use Rattle.ff_trace.specs.Within.{turns_asked, turns_in_row}
 use Rattle.ff_trace.specs.declared.row.Row.{Row}
 use Rattle.ff_trace.specs.declared.row.Row.TheVariants.{Call, Turns, Power}
-use Rattle.ff_sessions.specs.Items.{Item, call, items_of, loss, over, row_items, turn}
+use Rattle.ff_sessions.specs.Items.{Item, items_of, over, row_items, turn}
 use Rattle.ff_sessions.specs.Making.{HasRoomFor, is_call, is_turn}
 use Rattle.ff_sessions.specs.Stops.{items_from, row_left}
 

@@ -24,7 +24,6 @@ use Rattle.ff_scan.specs.Probing.{first_stop}
 use Rattle.ff_store.specs.PageStore.{PageStoreView}
 use Rattle.ff_store.specs.Remounted.{probed_flash}
 use Rattle.ff_sessions.specs.Remounts.{IsRemounted, IsStoppedRemount}
-use Rattle.ff_sessions.specs.Sessions.{remount_operations}
 
 -- neither the mount nor the image was stopped
 unplanned_both : (told : Option Planned) (made n m : ℕ) (image : Content)
