@@ -1,9 +1,12 @@
+pub mod Asked
 pub mod Called
 pub mod Ended
 pub mod Fewer
 pub mod Follows
 pub mod Making
 pub mod Numbers
+pub mod Opened
+pub mod Remounting
 pub mod RowItems
 pub mod Runs
 pub mod Steps

@@ -1,6 +1,7 @@
 // Keeps what a session left, and remounts it.
 ghost use Rattle.std.specs.Prelude.{◌≡◌, ◌≤◌, ◌^◌, IfErr, IfOk};
 ghost use Rattle.ff_base.specs.Geometry.{IsWithinLimits};
+ghost use Rattle.ff_flash.specs.SimFlash.{IsSimFlashSound};
 ghost use Rattle.ff_mount.specs.Sound.{AreSound};
 ghost use Rattle.ff_sessions.specs.Closing.{IsClosed};
 
@@ -10,6 +11,7 @@ use ff_base::{Geometry, NoMemory};
 use ff_core::Lost;
 use ff_evict::{Pick, Picker};
 use ff_flash::SimFlash;
+use ff_model::Image;
 use ff_mount::{MountStop, Mounted};
 use ff_policy::{Tune, Tuner};
 use std::alloc::Global;
@@ -37,12 +39,35 @@ pub fn close<T: Tune + Drop, E: Pick + Drop>(
 {
     let nv = lost.nv.copy(alloc)?;
     let flash = lost.flash.copy(alloc)?;
-    let (image, mounted, stop) = match remount(alloc, nv, flash, geometry) {
-        Ok(Remounted { mounted, image }) => (Some(image), Some(mounted), None),
-        Err(MountStop::NoMemory) => return Err(NoMemory),
-        Err(stop) => (None, None, Some(stop)),
-    };
-    Ok(Closed {
+    flash_known(&flash);
+    match remount(alloc, nv, flash, geometry) {
+        Ok(Remounted { mounted, image }) => Ok(kept(lost, Some(mounted), Some(image), None)),
+        Err(MountStop::NoMemory) => Err(NoMemory),
+        Err(stop) => Ok(kept(lost, None, None, Some(stop))),
+    }
+}
+
+fn kept<T: Tune, E: Pick>(
+    lost: Lost<SimFlash, T, E>,
+    mounted: Option<Mounted<SimFlash>>,
+    image: Option<Image>,
+    stop: Option<MountStop>,
+) -> Closed<T, E>
+    ensures { result ≡ record {
+      session = record {
+        base = lost.base;
+        account = lost.account;
+        nv = lost.nv;
+        flash = lost.flash;
+        image = image;
+        stop = stop;
+      };
+      mounted = mounted;
+      tuner = lost.tuner;
+      picker = lost.picker;
+    } }
+{
+    Closed {
         session: Session {
             base: lost.base,
             account: lost.account,
@@ -54,5 +79,12 @@ pub fn close<T: Tune + Drop, E: Pick + Drop>(
         mounted,
         tuner: lost.tuner,
         picker: lost.picker,
-    })
+    }
+}
+
+// What every simulated flash keeps. For the prover alone.
+fn flash_known(flash: &SimFlash)
+    ensures { IsSimFlashSound flash.now }
+{
+    let _ = flash.cut_arrive();
 }

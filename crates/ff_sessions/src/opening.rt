@@ -3,8 +3,9 @@ ghost use Rattle.std.specs.Prelude.{ℕ, ◌≡◌, ◌≤◌, ◌*◌, IfOk, le
 ghost use Rattle.ff_base.specs.Geometry.{IsWithinLimits};
 ghost use Rattle.ff_core.specs.Resume.{CanResume};
 ghost use Rattle.ff_flash.specs.Plans.{IsPlan, planned_of};
-ghost use Rattle.ff_flash.specs.SimFlash.{told_plan};
+ghost use Rattle.ff_flash.specs.SimFlash.{IsSimFlashSound, told_plan};
 ghost use Rattle.ff_mount.specs.Held.{held_content, nv_of};
+ghost use Rattle.ff_store.specs.PageStore.{IsStoreSound};
 ghost use Rattle.ff_trace.specs.Tally.{most_rows, most_turns};
 ghost use Rattle.ff_trace.specs.Within.{turns_asked, turns_in_row};
 ghost use Rattle.ff_sessions.specs.Begun.{IsBegun, resumed_start};
@@ -104,9 +105,19 @@ pub fn open_next<T: Tune + Drop, E: Pick + Drop>(
         (resumed_start base.now event mounted.store.world.flash)) }
     ensures room { IfOk result (λ core. (made : ℕ) → HasRoomFor core (items_from made rows.now)) }
 {
+    parts_known(&mounted);
     let room = room_for(rows);
     match Core::resume(alloc, mounted, base, *geometry, tuner, picker, room, event) {
         Ok(core) => Ok(core),
         Err(_) => Err(NoMemory),
     }
+}
+
+// What the store and the flash of all mounted parts keep. For the prover alone.
+fn parts_known(mounted: &Mounted<SimFlash>)
+    ensures store { IsStoreSound mounted.now.store }
+    ensures flash { IsSimFlashSound mounted.now.store.world.flash }
+{
+    mounted.store.known();
+    let _ = mounted.store.flash().cut_arrive();
 }

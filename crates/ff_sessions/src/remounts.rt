@@ -1,5 +1,5 @@
 // Mounts what a session left, and makes the image of it.
-ghost use Rattle.std.specs.Prelude.{◌≤◌, ◌^◌, IfErr, IfOk};
+ghost use Rattle.std.specs.Prelude.{◌≡◌, ◌≤◌, ◌^◌, IfErr, IfOk};
 ghost use Rattle.ff_base.specs.Geometry.{IsWithinLimits};
 ghost use Rattle.ff_mount.specs.Sound.{AreSound};
 ghost use Rattle.ff_sessions.specs.Remounts.{IsRemounted, IsStoppedRemount};
@@ -8,7 +8,7 @@ use ff_base::Geometry;
 use ff_cache::Nv;
 use ff_flash::Flash;
 use ff_model::Image;
-use ff_mount::{MountStop, Mounted, image_of, mount};
+use ff_mount::{MountBack, MountStop, Mounted, image_of, mount};
 use std::alloc::Global;
 
 /// Mounted parts, and the image of them.
@@ -32,10 +32,17 @@ pub fn remount<F: Flash + Drop>(
         r.mounted.cache r.mounted.marks r.image) }
     ensures err { IfErr result (IsStoppedRemount geometry.now nv (F.state flash)) }
 {
-    let mut mounted = match mount(alloc, nv, flash, geometry) {
-        Ok(mounted) => mounted,
-        Err(back) => return Err(back.stop),
-    };
-    let image = image_of(alloc, &mut mounted, geometry)?;
-    Ok(Remounted { mounted, image })
+    match mount(alloc, nv, flash, geometry) {
+        Ok(mut mounted) => match image_of(alloc, &mut mounted, geometry) {
+            Ok(image) => Ok(Remounted { mounted, image }),
+            Err(stop) => Err(stop),
+        },
+        Err(back) => Err(stop_of(back)),
+    }
+}
+
+fn stop_of<F: Flash + Drop>(back: MountBack<F>) -> MountStop
+    ensures { result ≡ back.stop }
+{
+    back.stop
 }
