@@ -105,7 +105,9 @@ pub fn open_next<T: Tune + Drop, E: Pick + Drop>(
     ensures room { IfOk result (λ core. (made : ℕ) → HasRoomFor core (items_from made rows.now)) }
 {
     let room = room_for(rows);
-    match Core::resume(alloc, mounted, base, *geometry, tuner, picker, room, event) {
+    match Core::resume(
+        alloc, mounted, base, *geometry, tuner, picker, room, event,
+    ) {
         Ok(core) => Ok(core),
         Err(_) => Err(NoMemory),
     }
