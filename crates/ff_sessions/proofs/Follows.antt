@@ -1,5 +1,5 @@
 -- Sessions that follow one another, with one session more.
-use Rattle.std.proofs.Common.{◌≡◌, ◌+◌, List, [], ◌∷◌, ◌++◌, refl, sym, subst}
+use Rattle.std.proofs.Common.{◌≡◌, List, [], ◌∷◌, ◌++◌, refl, sym, subst}
 use Rattle.std.specs.Prelude.{Option, Some, None}
 use Rattle.ff_core.specs.Account.{Start}
 use Rattle.ff_mount.specs.declared.stop.MountStop.{MountStop}
