@@ -23,7 +23,7 @@ use Rattle.ff_mount.specs.declared.stop.MountStop.{MountStop}
 use Rattle.ff_scan.specs.Probing.{first_stop}
 use Rattle.ff_store.specs.PageStore.{PageStoreView}
 use Rattle.ff_store.specs.Remounted.{probed_flash}
-use Rattle.ff_sessions.specs.Remounts.{IsRemounted, IsStoppedRemount}
+use Rattle.ff_sessions.specs.Remounts.{HasRemounted, IsStoppedRemount}
 
 -- neither the mount nor the image was stopped
 unplanned_both : (told : Option Planned) (made n m : ℕ) (image : Content)
@@ -94,7 +94,7 @@ over_mounted : (g : Geometry) (nv : NvView) (flash : FlashState) (s t : PageStor
     → image ≡ held_content g.pages (nv_of cache marks) s.world.flash.cells
     → t ≡ after_reads s (image_reads g.pages (ways_of cache.slots) s.world.flash.cells)
     → GoesAsTold s.world.flash (image_reads g.pages (ways_of cache.slots) s.world.flash.cells) (Ok image)
-    → IsRemounted g nv flash t cache marks image
+    → HasRemounted g nv flash t cache marks image
 over_mounted g nv flash s t cache marks image limits few sound mounted unplanned is read goes =
     let reads = image_reads g.pages (ways_of cache.slots) s.world.flash.cells in
     let same = mounted_reads g nv flash s cache marks mounted in
@@ -117,9 +117,9 @@ pub imaged : {F : Type 0} (g : Geometry) (nv : NvView) (flash : FlashState) (old
     → image ≡ held_content g.pages (nv_of old.cache old.marks) old.store.world.flash.cells
     → new.store ≡ after_reads old.store (image_reads g.pages (ways_of old.cache.slots) old.store.world.flash.cells)
     → GoesAsTold old.store.world.flash (image_reads g.pages (ways_of old.cache.slots) old.store.world.flash.cells) (Ok image)
-    → new ≡ record old { store = new.store } → IsRemounted g nv flash new.store new.cache new.marks image
+    → new ≡ record old { store = new.store } → HasRemounted g nv flash new.store new.cache new.marks image
 imaged {F} g nv flash old new image limits few sound mounted unplanned is read goes kept =
-    subst (λ (m : Mounted F). IsRemounted g nv flash new.store m.cache m.marks image) (sym kept)
+    subst (λ (m : Mounted F). HasRemounted g nv flash new.store m.cache m.marks image) (sym kept)
     (over_mounted g nv flash old.store new.store old.cache old.marks image limits few sound mounted unplanned is read goes)
 
 -- the image was stopped

@@ -15,8 +15,8 @@ use Rattle.ff_trace.specs.Tally.{most_losses}
 use Rattle.ff_trace.specs.Within.{AreWithin}
 use Rattle.ff_trace.specs.declared.row.Row.{Row}
 use Rattle.ff_sessions.specs.Begun.{IsBegun, IsRun, setup_in}
-use Rattle.ff_sessions.specs.Closing.{IsClosed}
-use Rattle.ff_sessions.specs.Following.{Follow, GoesOn, IsGoneOn, IsRunning, IsStep, MayRun, most_between, place_after, stops_left}
+use Rattle.ff_sessions.specs.Closing.{IsClosedSession}
+use Rattle.ff_sessions.specs.Following.{Follow, GoesOn, IsGoneOn, IsUnderWay, IsNextStep, MayRun, most_between, place_after, stops_left}
 use Rattle.ff_sessions.specs.Items.{Item, items_of}
 use Rattle.ff_sessions.specs.Making.{HasRoomFor, most_operations}
 use Rattle.ff_sessions.specs.Sessions.{AreSessionsOf, Setup, first_start, start_after}
@@ -38,7 +38,7 @@ is_mounted (Some m) stop stopped none = refl
 
 -- where no session is open behind one that has an image, nothing is left
 ends_of : {T E : Type 0} (setup : Setup) (rows : List Row) (stop : Stop) (lost : Lost FlashState T E) (closed : Closed T E)
-    (next : Option (Open T E)) → IsClosed setup.geometry lost closed → IfNone next (IsSome closed.mounted → place_after stop ≡ None)
+    (next : Option (Open T E)) → IsClosedSession setup.geometry lost closed → IfNone next (IsSome closed.mounted → place_after stop ≡ None)
     → IfNone next (closed.session.stop ≡ None → items_behind rows stop ≡ [])
 ends_of setup rows stop lost closed (Some later) closes ends = tt
 ends_of setup rows stop lost closed None closes ends = λ imaged. items_none rows stop (ends (is_mounted closed.mounted closed.session.stop closes.stopped imaged))
@@ -46,8 +46,8 @@ ends_of setup rows stop lost closed None closes ends = λ imaged. items_none row
 -- a session was run and closed, and the run went on behind it
 pub step_of : {T E : Type 0} (setup : Setup) (start : Start) (rows : List Row) (running : Open T E) (stop : Stop)
     (lost : Lost FlashState T E) (closed : Closed T E) (step : Step T E) → MayRun setup start rows running
-    → IsRun setup start rows running.at stop lost → IsClosed setup.geometry lost closed → IsGoneOn setup.geometry rows closed stop step
-    → IsStep setup start rows running.at step
+    → IsRun setup start rows running.at stop lost → IsClosedSession setup.geometry lost closed → IsGoneOn setup.geometry rows closed stop step
+    → IsNextStep setup start rows running.at step
 step_of setup start rows running stop lost closed step may ran closes gone = record {
   left = items_behind rows stop;
   next = rw gone.session (next_of setup start rows running.at stop lost closed.session ran closes.session);
@@ -60,11 +60,11 @@ step_of setup start rows running stop lost closed step may ran closes gone = rec
 pub ok_step : {T E : Type 0} (rows : List Row) (running : Open T E) (geometry : Geometry) (stop : Stop) (lost : Lost FlashState T E)
     (closed : Closed T E) (result : Result (Step T E) NoMemory) → geometry ≡ running.core.geometry
     → MayRun (setup_in running.core) (start_of running.core) rows running
-    → IsRun (setup_in running.core) (start_of running.core) rows running.at stop lost → IsClosed geometry lost closed
+    → IsRun (setup_in running.core) (start_of running.core) rows running.at stop lost → IsClosedSession geometry lost closed
     → IfOk result (IsGoneOn geometry rows closed stop)
-    → IfOk result (IsStep (setup_in running.core) (start_of running.core) rows running.at)
+    → IfOk result (IsNextStep (setup_in running.core) (start_of running.core) rows running.at)
 ok_step rows running geometry stop lost closed result same may ran closes gone =
-    IfOk-weaker result (IsGoneOn geometry rows closed stop) (IsStep (setup_in running.core) (start_of running.core) rows running.at)
+    IfOk-weaker result (IsGoneOn geometry rows closed stop) (IsNextStep (setup_in running.core) (start_of running.core) rows running.at)
     (λ step goes. step_of (setup_in running.core) (start_of running.core) rows running stop lost closed step may ran
     (rw same at closes) (rw same at goes)) gone
 
@@ -76,7 +76,7 @@ setup_is setup start core begun =
 
 -- what a step asks of the open session
 pub may_step : {T E : Type 0} (setup : Setup) (rows : List Row) (sessions : List Session) (running : Open T E)
-    → IsRunning setup rows sessions running → MayRun (setup_in running.core) (start_of running.core) rows running
+    → IsUnderWay setup rows sessions running → MayRun (setup_in running.core) (start_of running.core) rows running
 may_step setup rows sessions running runs =
     let begun = runs.may_run.begun in
     subst (λ (s : Setup). MayRun s (start_of running.core) rows running) (sym (setup_is setup runs.start running.core begun))
@@ -84,18 +84,18 @@ may_step setup rows sessions running runs =
 
 -- a step of the run's own setup and start
 own_step : {T E : Type 0} (setup : Setup) (rows : List Row) (sessions : List Session) (running : Open T E) (step : Step T E)
-    → (runs : IsRunning setup rows sessions running)
-    → IsStep (setup_in running.core) (start_of running.core) rows running.at step → IsStep setup runs.start rows running.at step
+    → (runs : IsUnderWay setup rows sessions running)
+    → IsNextStep (setup_in running.core) (start_of running.core) rows running.at step → IsNextStep setup runs.start rows running.at step
 own_step setup rows sessions running step runs is_step =
     let begun = runs.may_run.begun in
-    subst (λ (s : Start). IsStep setup s rows running.at step) begun.start_is
-    (subst (λ (s : Setup). IsStep s (start_of running.core) rows running.at step) (setup_is setup runs.start running.core begun) is_step)
+    subst (λ (s : Start). IsNextStep setup s rows running.at step) begun.start_is
+    (subst (λ (s : Setup). IsNextStep s (start_of running.core) rows running.at step) (setup_is setup runs.start running.core begun) is_step)
 
 -- the run goes on
 pub runs_on : {T E : Type 0} (setup : Setup) (rows : List Row) (sessions : List Session) (running : Open T E) (step : Step T E)
-    (later : Open T E) → IsRunning setup rows sessions running
-    → IsStep (setup_in running.core) (start_of running.core) rows running.at step → step.next ≡ Some later
-    → IsRunning setup rows (sessions ++ step.session ∷ []) later
+    (later : Open T E) → IsUnderWay setup rows sessions running
+    → IsNextStep (setup_in running.core) (start_of running.core) rows running.at step → step.next ≡ Some later
+    → IsUnderWay setup rows (sessions ++ step.session ∷ []) later
 runs_on setup rows sessions running step later runs is_step is =
     let own = own_step setup rows sessions running step runs is_step in
     let goes = MatchOption-at_some ⊤ (GoesOn setup rows step.session (items_at rows running.at) own.left runs.start) later is own.again in
@@ -115,7 +115,7 @@ runs_on setup rows sessions running step later runs is_step is =
 
 -- the run is over
 pub runs_out : {T E : Type 0} (setup : Setup) (rows : List Row) (sessions : List Session) (running : Open T E) (step : Step T E)
-    → IsRunning setup rows sessions running → IsStep (setup_in running.core) (start_of running.core) rows running.at step
+    → IsUnderWay setup rows sessions running → IsNextStep (setup_in running.core) (start_of running.core) rows running.at step
     → step.next ≡ None → AreSessionsOf setup rows (sessions ++ step.session ∷ [])
 runs_out setup rows sessions running step runs is_step is =
     let own = own_step setup rows sessions running step runs is_step in
@@ -125,7 +125,7 @@ runs_out setup rows sessions running step runs is_step is =
 -- the first session is open
 pub runs_first : {T E : Type 0} (setup : Setup) (rows : List Row) (core : CoreView T E) → IsBegun setup (first_start setup) core
     → HasRoomFor core (items_of rows) → AreWithin (length setup.plan.cuts) rows
-    → IsRunning setup rows [] (record { core = core; at = record { row = 0; made = 0 } })
+    → IsUnderWay setup rows [] (record { core = core; at = record { row = 0; made = 0 } })
 runs_first setup rows core begun room within =
     let whole = items_whole rows in
     let stops = stops_first setup.plan rows most_losses within.losses in

@@ -18,11 +18,11 @@ use Rattle.ff_mount.specs.Held.{held_content, image_reads, is_read}
 use Rattle.ff_store.specs.PageStore.{PageStoreView}
 use Rattle.ff_trace.specs.declared.row.Row.{Row}
 use Rattle.ff_sessions.specs.Begun.{IsBegun, IsRun, resumed_start}
-use Rattle.ff_sessions.specs.Closing.{IsClosed, IsSessionOf}
+use Rattle.ff_sessions.specs.Closing.{IsClosedSession, IsSessionOf}
 use Rattle.ff_sessions.specs.Following.{GoesOn, IsOpened, MayFollow, MayRun, most_between, place_after, stops_left}
 use Rattle.ff_sessions.specs.Items.{Item, items_of}
 use Rattle.ff_sessions.specs.Making.{most_operations}
-use Rattle.ff_sessions.specs.Remounts.{IsRemounted}
+use Rattle.ff_sessions.specs.Remounts.{HasRemounted}
 use Rattle.ff_sessions.specs.Sessions.{IsGood, IsNextSession, Setup, arrive_by, ending_items, remount_operations, setup_with, start_after}
 use Rattle.ff_sessions.specs.Stops.{IsStopWithin, ending_of, items_at, items_behind}
 use Rattle.ff_sessions.specs.declared.chain.Open.{Open}
@@ -83,7 +83,7 @@ remount_few geometry nv flash limits =
 -- a session may begin over what a remount of one that is over found
 may_follow : {T E : Type 0} (geometry : Geometry) (lost : Lost FlashState T E) (session : Session) (store : PageStoreView)
     (cache : CacheView) (marks : List ℕ) → IsSessionOf geometry lost session → session.stop ≡ None
-    → IsRemounted geometry lost.nv lost.flash store cache marks (held_content geometry.pages lost.nv lost.flash.cells)
+    → HasRemounted geometry lost.nv lost.flash store cache marks (held_content geometry.pages lost.nv lost.flash.cells)
     → session.account.events ≤ 2 ^ 62 → MayFollow geometry session store cache marks
 may_follow geometry lost session store cache marks of none mounted not_past = record {
   image = of.image ∙ rw none (ap Some mounted.base_is);
@@ -97,7 +97,7 @@ both_some (Some m) p q f = f m p q
 
 -- a session may begin over the mounted parts, where there are any
 pub parts_of : {T E : Type 0} (setup : Setup) (start : Start) (rows : List Row) (at : Place) (stop : Stop) (lost : Lost FlashState T E)
-    (geometry : Geometry) (closed : Closed T E) → IsRun setup start rows at stop lost → IsClosed geometry lost closed
+    (geometry : Geometry) (closed : Closed T E) → IsRun setup start rows at stop lost → IsClosedSession geometry lost closed
     → IfSome closed.mounted (λ m. MayFollow geometry closed.session m.store m.cache m.marks)
 parts_of setup start rows at stop lost geometry closed ran closes =
     let account = ap (λ (a : RecordView). a.events) closes.session.account in
@@ -108,7 +108,7 @@ parts_of setup start rows at stop lost geometry closed ran closes =
 -- it starts where the session behind this one does
 start_same : {T E : Type 0} (setup : Setup) (lost : Lost FlashState T E) (session : Session) (store : PageStoreView)
     (cache : CacheView) (marks : List ℕ) (image : Content) → IsSessionOf setup.geometry lost session
-    → IsRemounted setup.geometry lost.nv lost.flash store cache marks image
+    → HasRemounted setup.geometry lost.nv lost.flash store cache marks image
     → resumed_start (held_content setup.geometry.pages lost.nv lost.flash.cells) session.account.events store.world.flash
     ≡ start_after setup session
 start_same setup lost session store cache marks image of mounted =
@@ -117,7 +117,7 @@ start_same setup lost session store cache marks image of mounted =
 -- by the same setup
 setup_same : {T E : Type 0} (setup : Setup) (start : Start) (rows : List Row) (at : Place) (stop : Stop) (lost : Lost FlashState T E)
     (store : PageStoreView) (cache : CacheView) (marks : List ℕ) (image : Content) (floor : ℕ) → IsRun setup start rows at stop lost
-    → IsRemounted setup.geometry lost.nv lost.flash store cache marks image → floor ≡ lost.tuner.floor
+    → HasRemounted setup.geometry lost.nv lost.flash store cache marks image → floor ≡ lost.tuner.floor
     → setup_with setup.geometry (told_plan store.world.flash) floor ≡ setup
 setup_same setup start rows at stop lost store cache marks image floor ran mounted floor_is =
     let told : told_plan store.world.flash ≡ setup.plan =
@@ -187,7 +187,7 @@ some_of (Some m) some p f = f m p some
 -- the session behind a stop that was opened over what the one before it left
 module _ {T E : Type 0} (setup : Setup) (start : Start) (rows : List Row) (running : Open T E) (stop : Stop)
     (lost : Lost FlashState T E) (closed : Closed T E) (later : Open T E) (may : MayRun setup start rows running)
-    (ran : IsRun setup start rows running.at stop lost) (closes : IsClosed setup.geometry lost closed)
+    (ran : IsRun setup start rows running.at stop lost) (closes : IsClosedSession setup.geometry lost closed)
     (opens : IsOpened setup.geometry rows closed stop later) where
   imaged : closed.session.stop ≡ None
   imaged = some_of closed.mounted opens.begun closes.runs_on (λ m none begun. none)

@@ -7,7 +7,7 @@ use Rattle.ff_flash.specs.SimFlash.{told_plan}
 use Rattle.ff_mount.specs.Held.{held_content}
 use Rattle.ff_mount.specs.Stops.{mount_stop}
 use Rattle.ff_scan.specs.Probing.{first_stop}
-use Rattle.ff_sessions.specs.Remounts.{IsRemounted}
+use Rattle.ff_sessions.specs.Remounts.{HasRemounted}
 use Rattle.ff_sessions.specs.Sessions.{image_unless, remount_operations}
 use Rattle.ff_sessions.specs.declared.closing.Closed.{Closed}
 use Rattle.ff_sessions.specs.declared.session.Session.{Session}
@@ -25,10 +25,10 @@ pub record IsSessionOf {T E : Type 0} (geometry : Geometry) (lost : Lost FlashSt
       ≡ image_unless session.stop (held_content geometry.pages lost.nv lost.flash.cells)
 
 -- the session is kept, and what it left is mounted where it has an image
-pub record IsClosed {T E : Type 0} (geometry : Geometry) (lost : Lost FlashState T E)
+pub record IsClosedSession {T E : Type 0} (geometry : Geometry) (lost : Lost FlashState T E)
     (closed : Closed T E) : Type 0 where
   pub session : IsSessionOf geometry lost closed.session
-  pub mounted : IfSome closed.mounted (λ m. IsRemounted geometry lost.nv lost.flash m.store m.cache
+  pub mounted : IfSome closed.mounted (λ m. HasRemounted geometry lost.nv lost.flash m.store m.cache
       m.marks (held_content geometry.pages lost.nv lost.flash.cells))
   pub runs_on : IfSome closed.mounted (λ m. closed.session.stop ≡ None)
   pub stopped : IfNone closed.mounted (IsSome closed.session.stop)

@@ -55,7 +55,7 @@ pub record MayRun {T E : Type 0} (setup : Setup) (start : Start) (rows : List Ro
       ≤ 2 ^ 61
 
 -- the sessions so far took the items in front of the open one's, and few more may follow
-pub record IsRunning {T E : Type 0} (setup : Setup) (rows : List Row) (sessions : List Session)
+pub record IsUnderWay {T E : Type 0} (setup : Setup) (rows : List Row) (sessions : List Session)
     (running : Open T E) : Type 0 where
   pub start : Start
   pub follow : Follow setup (first_start setup) (items_of rows) sessions start
@@ -74,7 +74,7 @@ pub record GoesOn {T E : Type 0} (setup : Setup) (rows : List Row) (session : Se
       ≤ stops_left start.operations setup.plan items
 
 -- a session took its items and is good. The next one is open, or the run is over
-pub record IsStep {T E : Type 0} (setup : Setup) (start : Start) (rows : List Row) (at : Place)
+pub record IsNextStep {T E : Type 0} (setup : Setup) (start : Start) (rows : List Row) (at : Place)
     (step : Step T E) : Type 0 where
   pub left : List Item
   pub next : IsNextSession setup start step.session (items_at rows at) left

@@ -16,7 +16,7 @@ use Rattle.ff_sessions.specs.Sessions.{remount_operations}
 
 -- the parts and the image of a remount that went well: the image is what was held, and a session may begin over the parts
 -- with it
-pub record IsRemounted (geometry : Geometry) (nv : NvView) (flash : FlashState) (store : PageStoreView)
+pub record HasRemounted (geometry : Geometry) (nv : NvView) (flash : FlashState) (store : PageStoreView)
     (cache : CacheView) (marks : List ℕ) (image : Content) : Type 0 where
   pub image_is : image ≡ held_content geometry.pages nv flash.cells
   pub base_is : image ≡ held_content geometry.pages (nv_of cache marks) store.world.flash.cells

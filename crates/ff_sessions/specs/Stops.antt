@@ -25,12 +25,6 @@ items_from made (row ∷ later) = row_left made row ++ items_of later
 abbrev pub items_at : List Row → Place → List Item
 items_at rows place = items_from place.made (drop place.row rows)
 
--- where the rows go on behind a stop
-abbrev pub place_behind : Stop → Place
-place_behind (stops.Cut place) = place
-place_behind (stops.Power row arrive) = record { row = row + 1; made = 0 }
-place_behind stops.End = record { row = 0; made = 0 }
-
 -- the items that are left behind a stop
 abbrev pub items_behind : List Row → Stop → List Item
 items_behind rows (stops.Cut place) = items_at rows place

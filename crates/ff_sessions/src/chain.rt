@@ -6,7 +6,7 @@ ghost use Rattle.ff_flash.specs.Plans.{IsPlan, planned_of};
 ghost use Rattle.ff_trace.specs.Tally.{most_rows, most_turns};
 ghost use Rattle.ff_trace.specs.Within.{AreWithin, IsOfCaller, turns_asked};
 ghost use Rattle.ff_sessions.specs.Begun.{setup_in};
-ghost use Rattle.ff_sessions.specs.Following.{IsGoneOn, IsStep, MayFollow, MayRun, place_after};
+ghost use Rattle.ff_sessions.specs.Following.{IsGoneOn, IsNextStep, MayFollow, MayRun, place_after};
 ghost use Rattle.ff_sessions.specs.Sessions.{AreSessionsOf, setup_with};
 ghost use Rattle.ff_sessions.specs.Stops.{IsStopWithin};
 
@@ -108,7 +108,7 @@ fn next_session<T: Tune + Drop, E: Pick + Drop>(
     requires turns { turns_asked rows.now ≤ 4 * most_turns }
     requires geometry { geometry.now ≡ running.core.geometry }
     requires may_run { MayRun (setup_in running.core) (start_of running.core) rows.now running }
-    ensures { IfOk result (IsStep (setup_in running.core) (start_of running.core) rows.now running.at) }
+    ensures { IfOk result (IsNextStep (setup_in running.core) (start_of running.core) rows.now running.at) }
 {
     let Open { core, at } = running;
     let Ran { lost, stop } = run_session(core, rows, at);

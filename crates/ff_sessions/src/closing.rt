@@ -3,7 +3,7 @@ ghost use Rattle.std.specs.Prelude.{◌≡◌, ◌≤◌, ◌^◌, IfErr, IfOk};
 ghost use Rattle.ff_base.specs.Geometry.{IsWithinLimits};
 ghost use Rattle.ff_flash.specs.SimFlash.{IsSimFlashSound};
 ghost use Rattle.ff_mount.specs.Sound.{AreSound};
-ghost use Rattle.ff_sessions.specs.Closing.{IsClosed};
+ghost use Rattle.ff_sessions.specs.Closing.{IsClosedSession};
 
 use crate::remounts::{Remounted, remount};
 use crate::session::Session;
@@ -35,7 +35,7 @@ pub fn close<T: Tune + Drop, E: Pick + Drop>(
     requires geometry { IsWithinLimits geometry.now }
     requires sound { AreSound geometry.now lost.nv lost.flash }
     requires life { lost.flash.operations ≤ 2 ^ 61 }
-    ensures { IfOk result (IsClosed geometry.now lost) }
+    ensures { IfOk result (IsClosedSession geometry.now lost) }
 {
     let nv = lost.nv.copy(alloc)?;
     let flash = lost.flash.copy(alloc)?;

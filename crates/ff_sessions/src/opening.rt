@@ -107,9 +107,7 @@ pub fn open_next<T: Tune + Drop, E: Pick + Drop>(
 {
     parts_known(&mounted);
     let room = room_for(rows);
-    match Core::resume(
-        alloc, mounted, base, *geometry, tuner, picker, room, event,
-    ) {
+    match Core::resume(alloc, mounted, base, *geometry, tuner, picker, room, event) {
         Ok(core) => Ok(core),
         Err(_) => Err(NoMemory),
     }

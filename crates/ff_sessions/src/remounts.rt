@@ -2,7 +2,7 @@
 ghost use Rattle.std.specs.Prelude.{◌≡◌, ◌≤◌, ◌^◌, IfErr, IfOk};
 ghost use Rattle.ff_base.specs.Geometry.{IsWithinLimits};
 ghost use Rattle.ff_mount.specs.Sound.{AreSound};
-ghost use Rattle.ff_sessions.specs.Remounts.{IsRemounted, IsStoppedRemount};
+ghost use Rattle.ff_sessions.specs.Remounts.{HasRemounted, IsStoppedRemount};
 
 use ff_base::Geometry;
 use ff_cache::Nv;
@@ -28,7 +28,7 @@ pub fn remount<F: Flash + Drop>(
     requires geometry { IsWithinLimits geometry.now }
     requires sound { AreSound geometry.now nv (F.state flash) }
     requires life { (F.state flash).operations ≤ 2 ^ 61 }
-    ensures ok { IfOk result (λ r. IsRemounted geometry.now nv (F.state flash) r.mounted.store
+    ensures ok { IfOk result (λ r. HasRemounted geometry.now nv (F.state flash) r.mounted.store
         r.mounted.cache r.mounted.marks r.image) }
     ensures err { IfErr result (IsStoppedRemount geometry.now nv (F.state flash)) }
 {
