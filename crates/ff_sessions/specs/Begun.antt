@@ -1,5 +1,5 @@
 -- A session that has begun and done nothing yet, and what it comes to.
-use Rattle.std.specs.Prelude.{ℕ, ◌+◌, ◌*◌, ◌^◌, ◌≤◌, ◌<◌, ◌≡◌, true, List, [], ◌++◌, Option, Some, count_by, length}
+use Rattle.std.specs.Prelude.{ℕ, ◌+◌, ◌*◌, ◌≤◌, ◌<◌, ◌≡◌, true, List, [], ◌++◌, Some, length}
 use Rattle.ff_base.specs.Geometry.{IsWithinLimits}
 use Rattle.ff_core.specs.Account.{IsAccountOf, Start, start_of}
 use Rattle.ff_core.specs.Core.{CoreView}
@@ -14,7 +14,7 @@ use Rattle.ff_model.specs.Image.{Content}
 use Rattle.ff_trace.specs.declared.row.Row.{Row}
 use Rattle.ff_sessions.specs.Items.{IsWork, Item}
 use Rattle.ff_sessions.specs.Making.{most_operations}
-use Rattle.ff_sessions.specs.Sessions.{Ending, MayLeave, Setup, arrive_by, cut_by, ending_items, setup_with}
+use Rattle.ff_sessions.specs.Sessions.{MayLeave, Setup, arrive_by, cut_by, ending_items, setup_with}
 use Rattle.ff_sessions.specs.Stops.{IsStopWithin, ending_of, items_at, items_behind}
 use Rattle.ff_sessions.specs.declared.stop.Place.{Place}
 use Rattle.ff_sessions.specs.declared.stop.Stop.{Stop}

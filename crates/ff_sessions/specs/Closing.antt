@@ -1,5 +1,5 @@
 -- A session that is over and was remounted.
-use Rattle.std.specs.Prelude.{ℕ, ◌≡◌, Option, None, Some, IfNone, IfSome, IsSome, option_map}
+use Rattle.std.specs.Prelude.{◌≡◌, None, IfNone, IfSome, IsSome, option_map}
 use Rattle.ff_base.specs.declared.geometry.Geometry.{Geometry}
 use Rattle.ff_core.specs.declared.core_state.losing.Lost.{Lost}
 use Rattle.ff_flash.specs.FlashState.{FlashState}

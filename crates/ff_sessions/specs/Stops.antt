@@ -1,5 +1,5 @@
 -- How far a session comes in the rows of a trace.
-use Rattle.std.specs.Prelude.{ℕ, ◌+◌, ◌-◌, ◌<◌, ◌≤◌, ⊤, List, [], ◌∷◌, ◌++◌, drop, length, replicate, unwrap_or}
+use Rattle.std.specs.Prelude.{ℕ, ◌+◌, ◌-◌, ◌<◌, ⊤, List, [], ◌∷◌, ◌++◌, drop, replicate, unwrap_or}
 use Rattle.ff_flash.specs.FlashState.{FlashState}
 use Rattle.ff_flash.specs.SimFlash.{arrive_of_cut}
 use Rattle.ff_trace.specs.declared.row.Row.{Row}

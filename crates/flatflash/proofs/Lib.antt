@@ -1,3 +1,4 @@
 pub mod Ended
 pub mod Generated
+pub mod LastStops
 pub mod Told

@@ -94,8 +94,8 @@ found_of None (Some mount_stop.Fault) = Faulted
 found_of None stop = Cut
 
 -- the parts of a session that its text tells
-abbrev pub parts_of : Session → SessionPartsView
-parts_of session = record {
+abbrev pub told_parts : Session → SessionPartsView
+told_parts session = record {
   entries = session.account.entries;
   turns = turn_counts session.account.turns;
   counts = session.account.counts;
@@ -107,11 +107,11 @@ parts_of session = record {
 abbrev pub sessions_text : ℕ → List Session → List ℕ
 sessions_text at [] = []
 sessions_text at (session ∷ later) =
-    session_text at (parts_of session) ++ sessions_text (at + 1) later
+    session_text at (told_parts session) ++ sessions_text (at + 1) later
 
 -- the summaries of the sessions of a number's rows
 abbrev pub summaries_text : ℕ → List Session → List ℕ
-summaries_text number sessions = flat_map (λ session. summary_text number (parts_of session)) sessions
+summaries_text number sessions = flat_map (λ session. summary_text number (told_parts session)) sessions
 
 -- the line of settings that are refused
 abbrev pub settings_text : BadSettings → List ℕ

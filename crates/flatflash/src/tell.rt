@@ -5,7 +5,7 @@ ghost use Rattle.ff_report.specs.SessionPartsFields.{view_of};
 ghost use Rattle.ff_report.specs.Text.{session_text, summary_text};
 ghost use Rattle.ff_report.specs.Wrote.{Wrote};
 ghost use Rattle.ff_sessions.specs.Sessions.{last_stop};
-ghost use Rattle.flatflash.specs.Ending.{Tells, found_of, input_status, loaded, ran, refusal_status, refused, parts_of, sessions_text, settings_status, sink_change, stop_status, summaries_text};
+ghost use Rattle.flatflash.specs.Ending.{Tells, found_of, input_status, loaded, ran, refusal_status, refused, told_parts, sessions_text, settings_status, sink_change, stop_status, summaries_text};
 
 use crate::lines::line_of;
 use crate::outcome::{
@@ -56,12 +56,19 @@ fn write_sessions<K: Sink>(sink: &mut K, sessions: &[Session]) -> Result<(), Fai
         (K.faults sink.old) (K.faults sink.new) (sessions_text 0 sessions.now) }
 {
     for (at, session) in sessions.iter().enumerate() {
-        match write_session(sink, at as u32, &parts_of(session)) {
+        match write_one(sink, at as u32, session) {
             Ok(()) => {}
             Err(failed) => return Err(failed),
         }
     }
     Ok(())
+}
+
+fn write_one<K: Sink>(sink: &mut K, at: u32, session: &Session) -> Result<(), Failed>
+    ensures { Wrote result (K.written sink.old) (K.written sink.new)
+        (K.faults sink.old) (K.faults sink.new) (session_text at (told_parts session.now)) }
+{
+    write_session(sink, at, &told_parts(session))
 }
 
 /// Writes the summaries of the sessions of a number's rows, and answers with them.
@@ -81,7 +88,7 @@ fn write_summaries<K: Sink>(sink: &mut K, number: u32, sessions: &[Session]) -> 
         (K.faults sink.old) (K.faults sink.new) (summaries_text number sessions.now) }
 {
     for session in sessions {
-        match write_summary(sink, number, &parts_of(session)) {
+        match summarize(sink, number, session) {
             Ok(()) => {}
             Err(failed) => return Err(failed),
         }
@@ -89,9 +96,16 @@ fn write_summaries<K: Sink>(sink: &mut K, number: u32, sessions: &[Session]) -> 
     Ok(())
 }
 
+fn summarize<K: Sink>(sink: &mut K, number: u32, session: &Session) -> Result<(), Failed>
+    ensures { Wrote result (K.written sink.old) (K.written sink.new)
+        (K.faults sink.old) (K.faults sink.new) (summary_text number (told_parts session.now)) }
+{
+    write_summary(sink, number, &told_parts(session))
+}
+
 // What the text of a session tells.
-fn parts_of(session: &Session) -> SessionParts<'_>
-    ensures { view_of result ≡ parts_of session.now }
+fn told_parts(session: &Session) -> SessionParts<'_>
+    ensures { view_of result ≡ told_parts session.now }
 {
     let account = &session.account;
     SessionParts {
