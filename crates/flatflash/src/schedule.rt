@@ -15,14 +15,16 @@ use ff_io::{Sink, Source};
 use ff_policy::{Tune, Tuner};
 use std::alloc::Global;
 
-/// Runs the trace that the source gives, or the one that a number makes, writes the text of its
-/// session or of the refusal, and answers both. The words are the program's name and its arguments.
+/// Runs the trace that the source gives, or the one that a number makes, writes the texts of its
+/// sessions or of the refusal, and answers both. The words are the program's name and its arguments.
 /// The tuner sets the threshold at which a page is hot, and the picker scores the frames whose pages
 /// may go back.
 ///
-/// The session starts from nothing, its replies are those of a flat byte array, and its calls and
-/// turns are the rows of the trace in their order. What each status means, and when it comes, is in
-/// `docs/FORMATS.md`.
+/// The first session starts from nothing and each later one from the image of the one before. The
+/// replies of each are those of a flat byte array, and the calls and turns of all are the rows of the
+/// trace in their order. After each loss of power the persistent lines of the image read as after
+/// one prefix of the session's history, which has every acknowledged store. What each status means,
+/// and when it comes, is in `docs/FORMATS.md`.
 #[tactic(auto, using(crate::proofs::Ended::ended_scheduled, crate::proofs::Ended::ended_loaded, crate::proofs::Ended::ended_refused))]
 pub fn schedule<S: Source, K: Sink, T: Tune + Drop, E: Pick + Drop>(
     alloc: Global,
