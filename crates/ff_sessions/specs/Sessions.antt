@@ -130,9 +130,3 @@ AreSessions setup start items (session ∷ later) =
 -- the sessions of a run over rows
 abbrev pub AreSessionsOf : Setup → List Row → List Session → Type 0
 AreSessionsOf setup rows sessions = AreSessions setup (first_start setup) (items_of rows) sessions
-
--- why the last session has no image
-abbrev pub last_stop : List Session → Option MountStop
-last_stop [] = None
-last_stop (session ∷ []) = session.stop
-last_stop (session ∷ next ∷ later) = last_stop (next ∷ later)

@@ -58,7 +58,7 @@ marks_called =
     (one_called (mark_row 2) (mark_row 3 ∷ []) (omega arith) (one_called (mark_row 3) [] (omega arith) none_called)))
 
 -- turns come behind each sixteenth call
-turns_due : ℕ → ℕ
+abbrev turns_due : ℕ → ℕ
 turns_due at = 108 * (at / 16)
 
 behind : (fits : Bool) (at : ℕ) → (at % 16 == 15) ≡ fits → AreFew (if fits then turn_rows else []) 4 (turns_due (at + 1) - turns_due at)

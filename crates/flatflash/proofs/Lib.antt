@@ -1,4 +1,3 @@
 pub mod Ended
 pub mod Generated
-pub mod LastStops
 pub mod Told

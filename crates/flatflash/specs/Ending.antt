@@ -1,6 +1,6 @@
 -- How a call of the program ends, by the words, the input and the faults, and what it tells.
-use Rattle.std.specs.Prelude.{ℕ, ◌+◌, ◌≡◌, ◌≤◌, ◌⊎◌, ◌==◌, if◌then◌else◌, List, [], ◌∷◌, ◌++◌, codes, decimal, Option, Result, Ok, Err}
-use Rattle.std.specs.List.{flat_map}
+use Rattle.std.specs.Prelude.{ℕ, ◌+◌, ◌≡◌, ◌≤◌, ◌⊎◌, ◌==◌, if◌then◌else◌, List, [], ◌∷◌, ◌++◌, codes, decimal, Option, Some, None, is_some, Result, Ok, Err}
+use Rattle.std.specs.List.{flat_map, list_any}
 use Rattle.std.specs.Io.KnownBytes.{Appends}
 use Rattle.ff_base.specs.Count.{Rose}
 use Rattle.ff_core.specs.Log.{turn_counts}
@@ -16,7 +16,7 @@ use Rattle.ff_model.specs.Image.{Content}
 use Rattle.ff_report.specs.Remounted.{Cut, Faulted, Found, RemountedView}
 use Rattle.ff_report.specs.SessionParts.{SessionPartsView}
 use Rattle.ff_report.specs.Text.{session_text, summary_text}
-use Rattle.ff_sessions.specs.Sessions.{AreSessionsOf, last_stop, setup_with}
+use Rattle.ff_sessions.specs.Sessions.{AreSessionsOf, setup_with}
 use Rattle.ff_sessions.specs.declared.session.Session.{Session}
 use Rattle.ff_settings.specs.Names.{text_of}
 use Rattle.ff_settings.specs.SettingsView.{SettingsView}
@@ -162,15 +162,14 @@ refusal_status refusal.NoMemory = 6
 refusal_status refusal.Usage = 1
 refusal_status (refusal.Input why) = input_status why
 
--- the status of sessions: 7 where the last of them has no image
-abbrev pub stop_status : Option MountStop → ℕ
-stop_status None = 0
-stop_status (Some stop) = 7
+-- the status of sessions: 7 where one has no image, which can be the last alone
+abbrev pub sessions_status : List Session → ℕ
+sessions_status sessions = if list_any (λ session. is_some session.stop) sessions then 7 else 0
 
 -- the status of an end
 abbrev pub end_status : End → ℕ
-end_status (ran sessions) = stop_status (last_stop sessions)
-end_status (loaded number sessions) = stop_status (last_stop sessions)
+end_status (ran sessions) = sessions_status sessions
+end_status (loaded number sessions) = sessions_status sessions
 end_status (refused why) = refusal_status why
 
 -- the sessions of an end

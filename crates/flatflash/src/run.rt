@@ -59,14 +59,13 @@ pub fn run_input<S: Source, T: Tune + Drop, E: Pick + Drop>(
 }
 
 /// Runs the trace that a number makes.
-#[tactic(auto, using(crate::proofs::Generated::generated_within))]
 pub fn run_generated<T: Tune + Drop, E: Pick + Drop>(
     alloc: Global,
     number: u32,
     tuner: Tuner<T>,
     picker: Picker<E>,
 ) -> Result<Vec<Session>, NoMemory>
-    ensures ok { IfOk result (λ sessions.
+    ensures { IfOk result (λ sessions.
         AreSessionsOf (load_setup tuner.floor) (generated number) sessions.items) }
 {
     let rows = generate(alloc, number)?;

@@ -4,8 +4,7 @@ ghost use Rattle.ff_report.specs.RemountedFields.{remounted_view};
 ghost use Rattle.ff_report.specs.SessionPartsFields.{view_of};
 ghost use Rattle.ff_report.specs.Text.{session_text, summary_text};
 ghost use Rattle.ff_report.specs.Wrote.{Wrote};
-ghost use Rattle.ff_sessions.specs.Sessions.{last_stop};
-ghost use Rattle.flatflash.specs.Ending.{Tells, found_of, input_status, loaded, ran, refusal_status, refused, told_parts, sessions_text, settings_status, sink_change, stop_status, summaries_text};
+ghost use Rattle.flatflash.specs.Ending.{Tells, found_of, input_status, loaded, ran, refusal_status, refused, told_parts, sessions_text, sessions_status, settings_status, sink_change, summaries_text};
 
 use crate::lines::line_of;
 use crate::outcome::{
@@ -129,11 +128,12 @@ fn found_of(session: &Session) -> Remounted<'_>
 }
 
 fn sessions_status(sessions: &[Session]) -> u8
-    ensures { result ≡ stop_status (last_stop sessions.now) }
+    ensures { result ≡ sessions_status sessions.now }
 {
-    match sessions.last() {
-        Some(last) if last.stop.is_some() => NO_IMAGE,
-        _ => DONE,
+    if sessions.iter().any(|session| session.stop.is_some()) {
+        NO_IMAGE
+    } else {
+        DONE
     }
 }
 
