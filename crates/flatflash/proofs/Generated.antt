@@ -76,8 +76,12 @@ called at op = record {
 }
 
 at_few : (at : ℕ) (op : Op) → AreFew (rows_at (at, op)) 5 (turns_due (at + 1) - turns_due at)
-at_few at op = both (Call (record { 0 = at % 4 }) op ∷ []) (turns_behind at) 1 4 0 (turns_due (at + 1) - turns_due at) (called at op)
-    (behind (at % 16 == 15) at refl)
+at_few at op =
+    let whole = both (Call (record { 0 = at % 4 }) op ∷ []) (turns_behind at) 1 4 0 (turns_due (at + 1) - turns_due at) (called at op)
+    (behind (at % 16 == 15) at refl) in
+    let few = whole.few in
+    let turns = whole.turns_few in
+    record { callers = whole.callers; few = omega arith; turns_few = omega arith; powered = whole.powered }
 
 calls_few : (at : ℕ) (ops : List Op)
     → AreFew (flat_map rows_at (enumerate_from at ops)) (5 * length ops) (turns_due (at + length ops) - turns_due at)

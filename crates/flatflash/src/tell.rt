@@ -1,5 +1,6 @@
 // What is written of a run, and the status that it ends with.
-ghost use Rattle.std.specs.Prelude.{◌≡◌, ◌<◌, ◌^◌, length, vec_len};
+ghost use Rattle.std.specs.Prelude.{◌≡◌, ◌<◌, ◌^◌, is_some, length, vec_len};
+ghost use Rattle.std.specs.List.{list_any};
 ghost use Rattle.ff_report.specs.RemountedFields.{remounted_view};
 ghost use Rattle.ff_report.specs.SessionPartsFields.{view_of};
 ghost use Rattle.ff_report.specs.Text.{session_text, summary_text};
@@ -130,11 +131,18 @@ fn found_of(session: &Session) -> Remounted<'_>
 fn sessions_status(sessions: &[Session]) -> u8
     ensures { result ≡ sessions_status sessions.now }
 {
-    if sessions.iter().any(|session| session.stop.is_some()) {
+    if are_stopped(sessions) {
         NO_IMAGE
     } else {
         DONE
     }
+}
+
+// Whether one of the sessions has no image.
+fn are_stopped(sessions: &[Session]) -> bool
+    ensures { result ≡ list_any (λ session. is_some session.stop) sessions.now }
+{
+    sessions.iter().any(|session| session.stop.is_some())
 }
 
 fn status_of(refusal: Refusal) -> u8
