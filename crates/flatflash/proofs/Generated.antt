@@ -1,5 +1,5 @@
 -- The rows that a number makes are run, and not too many.
-use Rattle.std.proofs.Common.{◌≡◌, ◌+◌, ◌*◌, ◌<◌, ◌≤◌, ◌^◌, ℕ, zero, suc, Bool, true, false, List, [], ◌∷◌, ◌++◌, length, refl, sym, ap, ◌∙◌, arith, length-append}
+use Rattle.std.proofs.Common.{◌≡◌, ◌+◌, ◌*◌, ◌<◌, ◌≤◌, ℕ, zero, suc, Bool, true, false, List, [], ◌∷◌, ◌++◌, length, refl, ap, arith, length-append}
 use Rattle.std.specs.Prelude.{◌==◌, ◌-◌, ◌%◌, ◌/◌, if◌then◌else◌, All, cond, count_by}
 use Rattle.std.specs.List.{enumerate_from, flat_map}
 use Rattle.std.proofs.lemmas.Bool.{eqb-true}
@@ -12,7 +12,6 @@ use Rattle.ff_model.specs.declared.op.Op.{Op}
 use Rattle.ff_trace.specs.declared.row.Row.{Row}
 use Rattle.ff_trace.specs.declared.row.Row.TheVariants.{Call, Turns}
 use Rattle.ff_trace.specs.Within.{AreWithin, IsOfCaller, is_power, turns_asked, turns_in_row}
-use Rattle.ff_model.specs.declared.op.Op.TheVariants.{Verify}
 
 -- the rows are of callers, without a loss of power, at most so many, and ask for at most so many turns
 record AreFew (rows : List Row) (most turns : ℕ) : Type 0 where
