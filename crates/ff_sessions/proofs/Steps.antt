@@ -19,7 +19,7 @@ use Rattle.ff_store.specs.PageStore.{PageStoreView}
 use Rattle.ff_trace.specs.declared.row.Row.{Row}
 use Rattle.ff_sessions.specs.Begun.{IsBegun, IsRun, resumed_start}
 use Rattle.ff_sessions.specs.Closing.{IsClosedSession, IsSessionOf}
-use Rattle.ff_sessions.specs.Following.{GoesOn, IsOpened, MayFollow, MayRun, most_between, place_after, stops_left}
+use Rattle.ff_sessions.specs.Following.{GoesOn, IsOpened, CanGoOn, MayRun, most_between, place_after, stops_left}
 use Rattle.ff_sessions.specs.Items.{Item, items_of}
 use Rattle.ff_sessions.specs.Making.{most_operations}
 use Rattle.ff_sessions.specs.Remounts.{HasRemounted}
@@ -84,7 +84,7 @@ remount_few geometry nv flash limits =
 may_follow : {T E : Type 0} (geometry : Geometry) (lost : Lost FlashState T E) (session : Session) (store : PageStoreView)
     (cache : CacheView) (marks : List ℕ) → IsSessionOf geometry lost session → session.stop ≡ None
     → HasRemounted geometry lost.nv lost.flash store cache marks (held_content geometry.pages lost.nv lost.flash.cells)
-    → session.account.events ≤ 2 ^ 62 → MayFollow geometry session store cache marks
+    → session.account.events ≤ 2 ^ 62 → CanGoOn geometry session store cache marks
 may_follow geometry lost session store cache marks of none mounted not_past = record {
   image = of.image ∙ rw none (ap Some mounted.base_is);
   resumes = mounted.resumes session.account.events not_past;
@@ -98,7 +98,7 @@ both_some (Some m) p q f = f m p q
 -- a session may begin over the mounted parts, where there are any
 pub parts_of : {T E : Type 0} (setup : Setup) (start : Start) (rows : List Row) (at : Place) (stop : Stop) (lost : Lost FlashState T E)
     (geometry : Geometry) (closed : Closed T E) → IsRun setup start rows at stop lost → IsClosedSession geometry lost closed
-    → IfSome closed.mounted (λ m. MayFollow geometry closed.session m.store m.cache m.marks)
+    → IfSome closed.mounted (λ m. CanGoOn geometry closed.session m.store m.cache m.marks)
 parts_of setup start rows at stop lost geometry closed ran closes =
     let account = ap (λ (a : RecordView). a.events) closes.session.account in
     let not_past = ran.account.not_past in

@@ -88,7 +88,7 @@ place_after (stops.Power row arrive) = Some (record { row = row + 1; made = 0 })
 place_after stops.End = None
 
 -- the image of a session that is over is that of these mounted parts, and the next one may begin over them
-pub record MayFollow (geometry : Geometry) (session : Session) (store : PageStoreView)
+pub record CanGoOn (geometry : Geometry) (session : Session) (store : PageStoreView)
     (cache : CacheView) (marks : List ℕ) : Type 0 where
   pub image : session.image
       ≡ Some (held_content geometry.pages (nv_of cache marks) store.world.flash.cells)

@@ -6,7 +6,7 @@ ghost use Rattle.ff_flash.specs.Plans.{IsPlan, planned_of};
 ghost use Rattle.ff_trace.specs.Tally.{most_rows, most_turns};
 ghost use Rattle.ff_trace.specs.Within.{AreWithin, IsOfCaller, turns_asked};
 ghost use Rattle.ff_sessions.specs.Begun.{setup_in};
-ghost use Rattle.ff_sessions.specs.Following.{IsGoneOn, IsNextStep, MayFollow, MayRun, place_after};
+ghost use Rattle.ff_sessions.specs.Following.{IsGoneOn, IsNextStep, CanGoOn, MayRun, place_after};
 ghost use Rattle.ff_sessions.specs.Sessions.{AreSessionsOf, setup_with};
 ghost use Rattle.ff_sessions.specs.Stops.{IsStopWithin};
 
@@ -66,7 +66,7 @@ fn go_on<T: Tune + Drop, E: Pick + Drop>(
 ) -> Result<Step<T, E>, NoMemory>
     requires geometry { IsWithinLimits geometry.now }
     requires parts { IfSome closed.mounted
-        (λ m. MayFollow geometry.now closed.session m.store m.cache m.marks) }
+        (λ m. CanGoOn geometry.now closed.session m.store m.cache m.marks) }
     requires within { IsStopWithin (length rows.now) stop }
     requires few { length rows.now ≤ most_rows }
     requires turns { turns_asked rows.now ≤ 4 * most_turns }
