@@ -1,7 +1,9 @@
 // A trace in which the power is cut, or the flash fails, at each operation in turn.
+ghost use Rattle.std.specs.Prelude.{◌<◌};
+
 use super::{call, sink};
 use crate::outcome::Outcome;
-use ff_base::{Geometry, NoMemory, PageNo};
+use ff_base::{NoMemory, PageNo};
 use ff_flash::Flash;
 use ff_model::{Entry, History, Image, first_illegal, flat_byte};
 use ff_report::Line;
@@ -29,18 +31,6 @@ const ROWS: &[u8] = b"---\n\
     0,store,8192,b2\n\
     0,store,16384,b4\n\
     0,load,8192,1\n";
-
-const GEOMETRY: Geometry = Geometry {
-    blocks: 4,
-    per_block: 2,
-    pages: 16,
-    sets: 1,
-    ways: 1,
-    frames: 4,
-    plb: 2,
-    window: 4,
-    low: 1,
-};
 
 /// The outcome of the rows, with one more line of settings.
 fn outcome_of(alloc: Global, setting: &Line) -> Result<Outcome, NoMemory> {
@@ -72,50 +62,86 @@ fn failure_at(number: u32) -> Line {
 /// The first entries of a history.
 fn prefix(alloc: Global, history: &History, count: u32) -> Result<History, NoMemory> {
     let mut first = History::new(alloc, count)?;
-    for entry in history.as_slice().iter().take(count as usize) {
-        first.push(Entry {
-            event: entry.event,
-            caller: entry.caller,
-            number: entry.number,
-            op: entry.op.copy(),
-            reply: entry.reply.copy(),
-            faults: entry.faults,
-        });
+    for entry in history.as_slice() {
+        if first.spare() > 0 {
+            first.push(Entry {
+                event: entry.event,
+                caller: entry.caller,
+                number: entry.number,
+                op: entry.op.copy(),
+                reply: entry.reply.copy(),
+                faults: entry.faults,
+            });
+        }
     }
     Ok(first)
 }
 
 /// Whether a line of the image reads as after these entries.
-fn reads_after(image: &Image, base: &Image, entries: &History, at: u32) -> bool {
-    (at..at + 64).all(|at| image.byte(at) == flat_byte(base, entries, at))
+fn line_reads_after(image: &Image, base: &Image, entries: &History, page: u32, line: u32) -> bool
+    requires page { page < 16 }
+    requires line { line < 64 }
+{
+    for byte in 0..64 {
+        let at = page * 4096 + line * 64 + byte;
+        if image.byte(at) != flat_byte(base, entries, at) {
+            return false;
+        }
+    }
+    true
 }
 
 /// Whether each marked line of a page reads as after these entries.
-fn page_reads_after(image: &Image, base: &Image, entries: &History, page: u32) -> bool {
+fn page_reads_after(image: &Image, base: &Image, entries: &History, page: u32) -> bool
+    requires { page < 16 }
+{
+    if page >= image.pages() {
+        return false;
+    }
     let marks = image.marks(PageNo(page));
-    (0..64).filter(|line| marks >> line & 1 == 1).all(|line| reads_after(
-        image,
-        base,
-        entries,
-        page * 4096 + line * 64,
-    ))
+    for line in 0..64 {
+        let marked = marks >> line & 1 == 1;
+        if marked && !line_reads_after(image, base, entries, page, line) {
+            return false;
+        }
+    }
+    true
 }
 
 /// Whether each marked line of the image reads as after the entries that were kept.
 fn keeps_marked(alloc: Global, session: &Session, image: &Image) -> Result<bool, NoMemory> {
     let kept = prefix(alloc, session.account.history(), session.account.kept())?;
-    let base = &session.base;
-    Ok((0..image.pages()).all(|page| page_reads_after(image, base, &kept, page)))
+    for page in 0..16 {
+        if !page_reads_after(image, &session.base, &kept, page) {
+            return Ok(false);
+        }
+    }
+    Ok(true)
+}
+
+/// Whether a session is legal that began with so many faults.
+fn is_legal(session: &Session, faults: u64) -> bool {
+    let account = &session.account;
+    let geometry = account.geometry();
+    if geometry.check().is_err() {
+        return false;
+    }
+    let history = account.history();
+    first_illegal(
+        &session.base,
+        history,
+        geometry,
+        account.from_event(),
+        faults,
+    )
+    .is_none()
 }
 
 /// Whether the sessions are legal, and what their images have marked is what was kept.
 fn are_good(alloc: Global, sessions: &[Session]) -> Result<bool, NoMemory> {
     let mut faults = 0;
     for session in sessions {
-        let account = &session.account;
-        let history = account.history();
-        let from_event = account.from_event();
-        if first_illegal(&session.base, history, &GEOMETRY, from_event, faults).is_some() {
+        if !is_legal(session, faults) {
             return Ok(false);
         }
         if let Some(image) = &session.image {

@@ -1,8 +1,10 @@
 // Ordinary use as a log: a caller appends records to marked pages and verifies now and then, and the power is lost twice.
+ghost use Rattle.std.specs.Prelude.{◌≤◌};
+
 use super::call;
-use ff_base::NoMemory;
 use ff_io::MemorySink;
 use ff_report::Line;
+use ff_sessions::Session;
 use std::alloc::{AllocError, Global};
 use std::test::Fail;
 
@@ -31,7 +33,10 @@ fn put_record(text: &mut Vec<u8>, record: u32) -> Result<(), AllocError> {
 }
 
 /// The rows that append a record.
-fn put_rows(input: &mut Vec<u8>, record: u32) -> Result<(), AllocError> {
+fn put_rows(input: &mut Vec<u8>, record: u32) -> Result<(), AllocError>
+    requires least { 1 ≤ record }
+    requires most { record ≤ 200 }
+{
     put(input, b"0,store,", 64 * (record - 1))?;
     input.extend_from_slice(b",")?;
     put_record(input, record)?;
@@ -56,7 +61,9 @@ fn input(alloc: Global) -> Result<Vec<u8>, AllocError> {
 }
 
 /// The line of an image that has a record.
-fn put_line(text: &mut Vec<u8>, record: u32) -> Result<(), AllocError> {
+fn put_line(text: &mut Vec<u8>, record: u32) -> Result<(), AllocError>
+    requires { 1 ≤ record }
+{
     put(text, b"line ", (record - 1) / 64)?;
     put(text, b" ", (record - 1) % 64)?;
     text.extend_from_slice(b" ")?;
@@ -65,7 +72,7 @@ fn put_line(text: &mut Vec<u8>, record: u32) -> Result<(), AllocError> {
 }
 
 /// The records that the images after each of the three sessions have.
-fn is_kept(session: usize, record: u32) -> bool {
+fn is_kept(session: u32, record: u32) -> bool {
     match record {
         1..=101 => true,
         106..=151 => session >= 1,
@@ -75,21 +82,30 @@ fn is_kept(session: usize, record: u32) -> bool {
 }
 
 /// The end of the text of a session, from the line of what was kept on.
-fn ending(alloc: Global, session: usize, kept: u32) -> Result<Vec<u8>, AllocError> {
+fn ending(alloc: Global, session: u32, kept: u32) -> Result<Vec<u8>, AllocError>
+    requires { session ≤ 2 }
+{
     let mut text = Vec::new(alloc);
     put(&mut text, b"kept ", kept)?;
-    put(&mut text, b"\npages ", session as u32 + 2)?;
+    put(&mut text, b"\npages ", session + 2)?;
     text.extend_from_slice(b"\nmark 0\nmark 1\nmark 2\nmark 3\n")?;
-    for record in (1..=RECORDS).filter(|record| is_kept(session, *record)) {
-        put_line(&mut text, record)?;
+    for record in 1..=RECORDS {
+        if is_kept(session, record) {
+            put_line(&mut text, record)?;
+        }
     }
     text.extend_from_slice(b"end\n")?;
     Ok(text)
 }
 
-/// Whether a text has another in it.
+/// Whether a text has another in it, which isn't empty.
 fn has(text: &[u8], part: &[u8]) -> bool {
-    text.windows(part.len()).any(|window| window == part)
+    !part.is_empty() && text.windows(part.len()).any(|window| window == part)
+}
+
+fn device_lines(sessions: &[Session], session: u32) -> Option<u64> {
+    let session = sessions.get(session as usize)?;
+    Some(session.account.counts().device)
 }
 
 #[test]
@@ -98,12 +114,16 @@ fn a_log_finds_its_records_after_two_losses_of_power(rt: HostRuntime) -> Result<
     let mut sink = MemorySink::new(alloc, 200_000, Vec::new(alloc))?;
     let outcome = call(alloc, "flatflash schedule", &input(alloc)?, 0, &mut sink)?;
     assert_eq!(rt; (outcome.status, outcome.sessions.len()), (0, 3));
-    for (session, (kept, device)) in [(115, 105), (51, 50), (50, 45)].into_iter().enumerate() {
-        assert!(rt;
-            has(sink.written(), &ending(alloc, session, kept)?),
-            "session {session}"
-        );
-        assert_eq!(rt; outcome.sessions[session].account.counts().device, device);
+    let endings = [
+        ending(alloc, 0, 115)?,
+        ending(alloc, 1, 51)?,
+        ending(alloc, 2, 50)?,
+    ];
+    for ending in &endings {
+        assert!(rt; has(sink.written(), ending));
+    }
+    for (session, device) in [(0, 105), (1, 50), (2, 45)] {
+        assert_eq!(rt; device_lines(&outcome.sessions, session), Some(device));
     }
     Ok(())
 }
