@@ -21,10 +21,10 @@ fn put(text: &mut Vec<u8>, words: &[u8], number: u32) -> Result<(), AllocError> 
 }
 
 /// Appends the digits of a record, whose 64 bytes are all its number.
-fn put_record(text: &mut Vec<u8>, record: u32) -> Result<(), AllocError> {
+fn put_record(text: &mut Vec<u8>, number: u32) -> Result<(), AllocError> {
     let digits = [
-        DIGITS[(record / 16 % 16) as usize],
-        DIGITS[(record % 16) as usize],
+        DIGITS[(number / 16 % 16) as usize],
+        DIGITS[(number % 16) as usize],
     ];
     for _byte in 0..64 {
         text.extend_from_slice(&digits)?;
@@ -33,18 +33,18 @@ fn put_record(text: &mut Vec<u8>, record: u32) -> Result<(), AllocError> {
 }
 
 /// The rows that append a record.
-fn put_rows(input: &mut Vec<u8>, record: u32) -> Result<(), AllocError>
-    requires least { 1 ≤ record }
-    requires most { record ≤ 200 }
+fn put_rows(input: &mut Vec<u8>, number: u32) -> Result<(), AllocError>
+    requires least { 1 ≤ number }
+    requires most { number ≤ 200 }
 {
-    put(input, b"0,store,", 64 * (record - 1))?;
+    put(input, b"0,store,", 64 * (number - 1))?;
     input.extend_from_slice(b",")?;
-    put_record(input, record)?;
+    put_record(input, number)?;
     input.extend_from_slice(b"\n")?;
-    if record % 10 == 0 {
+    if number % 10 == 0 {
         input.extend_from_slice(b"0,verify,,\n")?;
     }
-    if matches!(record, 105 | 155) {
+    if matches!(number, 105 | 155) {
         input.extend_from_slice(b"-,power,0,\n")?;
     }
     Ok(())
@@ -54,26 +54,26 @@ fn input(alloc: Global) -> Result<Vec<u8>, AllocError> {
     let mut input = b"---\ncaller,op,a,b\n0,mark,0,\n0,mark,1,\n0,mark,2,\n0,mark,3,\n".to_vec(
         alloc,
     )?;
-    for record in 1..=RECORDS {
-        put_rows(&mut input, record)?;
+    for number in 1..=RECORDS {
+        put_rows(&mut input, number)?;
     }
     Ok(input)
 }
 
 /// The line of an image that has a record.
-fn put_line(text: &mut Vec<u8>, record: u32) -> Result<(), AllocError>
-    requires { 1 ≤ record }
+fn put_line(text: &mut Vec<u8>, number: u32) -> Result<(), AllocError>
+    requires { 1 ≤ number }
 {
-    put(text, b"line ", (record - 1) / 64)?;
-    put(text, b" ", (record - 1) % 64)?;
+    put(text, b"line ", (number - 1) / 64)?;
+    put(text, b" ", (number - 1) % 64)?;
     text.extend_from_slice(b" ")?;
-    put_record(text, record)?;
+    put_record(text, number)?;
     text.extend_from_slice(b"\n")
 }
 
 /// The records that the images after each of the three sessions have.
-fn is_kept(session: u32, record: u32) -> bool {
-    match record {
+fn is_kept(session: u32, number: u32) -> bool {
+    match number {
         1..=101 => true,
         106..=151 => session >= 1,
         156..=200 => session >= 2,
@@ -89,9 +89,9 @@ fn ending(alloc: Global, session: u32, kept: u32) -> Result<Vec<u8>, AllocError>
     put(&mut text, b"kept ", kept)?;
     put(&mut text, b"\npages ", session + 2)?;
     text.extend_from_slice(b"\nmark 0\nmark 1\nmark 2\nmark 3\n")?;
-    for record in 1..=RECORDS {
-        if is_kept(session, record) {
-            put_line(&mut text, record)?;
+    for number in 1..=RECORDS {
+        if is_kept(session, number) {
+            put_line(&mut text, number)?;
         }
     }
     text.extend_from_slice(b"end\n")?;
