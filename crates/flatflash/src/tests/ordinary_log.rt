@@ -1,5 +1,5 @@
 // Ordinary use as a log: a caller appends records to marked pages and verifies now and then, and the power is lost twice.
-ghost use Rattle.std.specs.Prelude.{◌≤◌};
+ghost use Rattle.std.specs.Prelude.{◌≤◌, length};
 
 use super::call;
 use ff_io::MemorySink;
@@ -13,7 +13,9 @@ const RECORDS: u32 = 200;
 const DIGITS: &[u8; 16] = b"0123456789abcdef";
 
 /// Appends text and a number.
-fn put(text: &mut Vec<u8>, words: &[u8], number: u32) -> Result<(), AllocError> {
+fn put(text: &mut Vec<u8>, words: &[u8], number: u32) -> Result<(), AllocError>
+    requires { length words.now ≤ 64 }
+{
     let mut line = Line::new();
     line.text(words);
     line.number(number);
