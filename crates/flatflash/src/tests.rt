@@ -1,16 +1,25 @@
 // Inputs with their status and text, and calls in which a read or a write fails.
-mod cases;
+mod calls;
+mod collecting;
+mod cut_masks;
+mod cuts;
 mod losses;
+mod losses_of_power;
+mod moves;
 mod ordinary_log;
+mod refused;
 
 use crate::outcome::Outcome;
 use crate::rules::{picker, tuner};
 use crate::schedule::schedule;
-use cases::CASES;
 use ff_base::NoMemory;
 use ff_io::{MemorySink, MemorySource};
 use std::alloc::{AllocError, Global};
+use std::process::Abort;
 use std::test::Fail;
+
+/// An input, the status that it ends with, and what is written.
+pub type Case = (&'static str, u8, &'static str);
 
 const FIRST: &[u8] = b"---\ncaller,op,a,b\n0,store,10,aabb\n0,store,11,cc\n0,load,10,3\n";
 
@@ -67,10 +76,9 @@ fn sessions_in(text: &str) -> usize {
         .count()
 }
 
-#[test]
-fn inputs_give_their_status_and_text(rt: HostRuntime) -> Result<(), Fail> {
-    let alloc = rt.alloc();
-    for (at, (input, status, text)) in CASES.iter().enumerate() {
+// Whether each input gives its status and text, and as many sessions as the text tells of.
+fn check_cases(rt: &impl Abort, alloc: Global, cases: &[Case]) -> Result<(), NoMemory> {
+    for (at, (input, status, text)) in cases.iter().enumerate() {
         let mut sink = sink(alloc, 0)?;
         let outcome = call(alloc, "flatflash schedule", input.as_bytes(), 0, &mut sink)?;
         assert_eq!(rt; outcome.status, *status, "case {at}");
@@ -78,6 +86,41 @@ fn inputs_give_their_status_and_text(rt: HostRuntime) -> Result<(), Fail> {
         assert_eq!(rt; outcome.sessions.len(), sessions_in(text), "case {at}");
     }
     Ok(())
+}
+
+#[test]
+fn calls_are_answered_as_by_a_flat_byte_array(rt: HostRuntime) -> Result<(), Fail> {
+    Ok(check_cases(&rt, rt.alloc(), &calls::CASES)?)
+}
+
+#[test]
+fn pages_move_and_stay_accessible(rt: HostRuntime) -> Result<(), Fail> {
+    Ok(check_cases(&rt, rt.alloc(), &moves::CASES)?)
+}
+
+#[test]
+fn the_flash_is_collected_and_may_fail(rt: HostRuntime) -> Result<(), Fail> {
+    Ok(check_cases(&rt, rt.alloc(), &collecting::CASES)?)
+}
+
+#[test]
+fn a_loss_of_power_keeps_what_was_promised(rt: HostRuntime) -> Result<(), Fail> {
+    Ok(check_cases(&rt, rt.alloc(), &losses_of_power::CASES)?)
+}
+
+#[test]
+fn what_a_cut_interrupts_is_made_again(rt: HostRuntime) -> Result<(), Fail> {
+    Ok(check_cases(&rt, rt.alloc(), &cuts::CASES)?)
+}
+
+#[test]
+fn a_cut_goes_as_far_as_its_mask(rt: HostRuntime) -> Result<(), Fail> {
+    Ok(check_cases(&rt, rt.alloc(), &cut_masks::CASES)?)
+}
+
+#[test]
+fn other_inputs_are_refused(rt: HostRuntime) -> Result<(), Fail> {
+    Ok(check_cases(&rt, rt.alloc(), &refused::CASES)?)
 }
 
 #[test]
