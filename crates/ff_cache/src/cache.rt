@@ -1,9 +1,8 @@
 // A cache's slots, found by their page's set, and what they hold.
-ghost use Rattle.std.specs.Prelude.{◌≡◌, ◌<◌, ◌≤◌, ◌+◌, IfOk, IfSome, length, MatchOption};
+ghost use Rattle.std.specs.Prelude.{◌≡◌, ◌<◌, ◌≤◌, ◌+◌, IfSome, length, MatchOption};
 ghost use Rattle.std.specs.Option.{is_none};
-ghost use Rattle.ff_base.specs.Geometry.{IsWithinLimits};
 ghost use Rattle.ff_base.specs.Page.{line_of};
-ghost use Rattle.ff_cache.specs.Cache.{first_of, fresh_cache, is_full_set, IsCacheSound, IsEmptyWay, IsSlotOf};
+ghost use Rattle.ff_cache.specs.Cache.{first_of, is_full_set, IsCacheSound, IsEmptyWay, IsSlotOf};
 ghost use Rattle.ff_cache.specs.Slots.{held, holds, is_empty, cache_slot_at, IsFirstThat, NonePasses};
 
 mod changes;

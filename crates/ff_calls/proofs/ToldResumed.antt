@@ -10,13 +10,12 @@ use Rattle.ff_kept.proofs.KeepingAnswered.{keeping-opened}
 use Rattle.ff_lines.specs.DeviceState.{DeviceState}
 use Rattle.ff_memory.specs.Located.{IsLocated}
 use Rattle.ff_memory.specs.Memory.{MemoryView, entry_at, fresh_memory, home_at}
-use Rattle.ff_memory.specs.Places.{Holds, byte_of, frame_of_page}
+use Rattle.ff_memory.specs.Places.{Holds, frame_of_page}
 use Rattle.ff_memory.proofs.Worked.{located-fresh}
-use Rattle.ff_model.specs.Image.{Content, byte_at, held_page}
+use Rattle.ff_model.specs.Image.{byte_at, held_page}
 use Rattle.ff_model.specs.Legal.{Opening}
 use Rattle.ff_plb.specs.declared.slot.Slot.{Slot}
 use Rattle.ff_table.specs.Table.{fresh_table}
-use Rattle.ff_table.specs.declared.table.Home.{Home}
 use Rattle.ff_table.specs.declared.table.Home.TheVariants.{Ssd}
 use Rattle.ff_calls.specs.Told.{IsTold}
 

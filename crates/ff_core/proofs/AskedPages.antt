@@ -10,7 +10,7 @@ use Rattle.ff_model.specs.declared.op.Op.TheVariants.{Load, Store, Verify, Mark,
 use Rattle.ff_core.specs.Core.{CoreView}
 use Rattle.ff_core.specs.CoreSound.{IsCoreSound}
 use Rattle.ff_core.specs.Serving.{page_asked}
-use Rattle.ff_core.specs.Turns.{refusal}
+use Rattle.ff_model.specs.Legal.{refusal}
 
 -- the call isn't refused at once
 pub record IsAsked (pages event : ℕ) (op : Op) : Type 0 where

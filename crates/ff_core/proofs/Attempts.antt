@@ -13,7 +13,8 @@ use Rattle.ff_core.specs.CoreSound.{IsCoreSound}
 use Rattle.ff_core.specs.Hierarchy.{HierarchyView, flash_under}
 use Rattle.ff_core.specs.Serving.{IsAccess, PolicyAfter, page_asked}
 use Rattle.ff_core.specs.Tally.{served_by}
-use Rattle.ff_core.specs.Turns.{IsAttempt, IsMissStep, IsTurn, IsTurnBy, answered, refusal}
+use Rattle.ff_model.specs.Legal.{refusal}
+use Rattle.ff_core.specs.Turns.{IsAttempt, IsMissStep, IsTurn, IsTurnBy, answered}
 use Rattle.ff_core.specs.declared.turn.Turn.{Turn}
 use Rattle.ff_core.specs.declared.turn.Turn.TheVariants.{Served}
 use Rattle.ff_core.proofs.AskedPages.{named-page}

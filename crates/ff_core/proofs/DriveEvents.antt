@@ -26,7 +26,8 @@ use Rattle.ff_core.specs.Drives.{AnswersOrLeaves, IsEvent, cut, served}
 use Rattle.ff_core.specs.EventsLeft.{events_left}
 use Rattle.ff_core.specs.Hierarchy.{HierarchyView, flash_under, lines_under}
 use Rattle.ff_core.specs.Serving.{IsAccess, PolicyAfter, page_asked}
-use Rattle.ff_core.specs.Turns.{AfterStep, IsAttempt, IsMiss, IsServed, IsTurn, IsTurnBy, answered, misses, refusal, serves}
+use Rattle.ff_model.specs.Legal.{refusal}
+use Rattle.ff_core.specs.Turns.{AfterStep, IsAttempt, IsMiss, IsServed, IsTurn, IsTurnBy, answered, misses, serves}
 use Rattle.ff_core.specs.declared.action.Action.{Action}
 use Rattle.ff_core.specs.declared.action.Progress.{Progress}
 use Rattle.ff_core.specs.declared.action.Progress.TheVariants.{Did, Failed, Off as ProgressOff}

@@ -16,7 +16,7 @@ use Rattle.ff_core.specs.CoreSound.{IsCoreSound, IsCounted, IsSized, IsTimed}
 use Rattle.ff_core.specs.Hierarchy.{HierarchyView, lines_under}
 use Rattle.ff_core.specs.Misses.{IsMissAction, MissesPage}
 use Rattle.ff_core.specs.Serving.{IsAccess, page_asked}
-use Rattle.ff_core.specs.Turns.{refusal}
+use Rattle.ff_model.specs.Legal.{refusal}
 use Rattle.ff_core.specs.declared.action.Action.{Action}
 use Rattle.ff_core.proofs.AskedPages.{named-page}
 use Rattle.ff_core.proofs.Mays.{help-may}

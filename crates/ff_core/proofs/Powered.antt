@@ -18,7 +18,8 @@ use Rattle.ff_core.specs.Core.{CoreView}
 use Rattle.ff_core.specs.Hierarchy.{HierarchyView, flash_under}
 use Rattle.ff_core.specs.Performs.{IsAdvanced, IsWorkedFor, Performs, steps, yields}
 use Rattle.ff_core.specs.Powered.{GoesOffByCut}
-use Rattle.ff_core.specs.Turns.{IsAttempt, IsTurn, IsTurnBy, misses, refusal, serves}
+use Rattle.ff_model.specs.Legal.{refusal}
+use Rattle.ff_core.specs.Turns.{IsAttempt, IsTurn, IsTurnBy, misses, serves}
 use Rattle.ff_core.specs.declared.action.Action.{Action}
 use Rattle.ff_core.specs.declared.action.Action.TheVariants.{Advance, TurnBack, Work, Promote, Retreat, Evict, Collect, Drain}
 use Rattle.ff_core.specs.declared.action.Progress.{Progress}

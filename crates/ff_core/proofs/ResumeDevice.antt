@@ -1,39 +1,33 @@
 -- A device over a mounted store and cache has nothing in flight, and reads as the image of them.
 use Rattle.std.specs.Prelude.{◌||◌, is_some, option_map}
-use Rattle.std.proofs.Common.{◌≡◌, ◌≤◌, ◌<◌, ◌+◌, ◌-◌, ◌*◌, ◌/◌, ◌%◌, ℕ, Bool, true, false, List, [], length, get_or, Option, Some, None, refl, sym, ap, ap₂, subst, ◌∙◌, arith}
-use Rattle.std.proofs.lemmas.Option.{none-some}
+use Rattle.std.proofs.Common.{◌≡◌, ◌<◌, ◌-◌, ◌*◌, ℕ, Bool, true, false, List, [], length, Option, Some, None, refl, sym, ap, ap₂, subst, ◌∙◌, arith}
 use Rattle.ff_base.specs.Geometry.{IsWithinLimits, capacity_of}
 use Rattle.ff_base.specs.declared.geometry.Geometry.{Geometry}
 use Rattle.ff_base.specs.declared.numbers.PageNo.{PageNo}
 use Rattle.ff_cache.specs.Cache.{CacheView, IsCacheSound}
-use Rattle.ff_cache.specs.Nv.{NvView, NvWay, way_of, ways_of}
+use Rattle.ff_cache.specs.Nv.{NvWay, way_of, ways_of}
 use Rattle.ff_cache.specs.Slots.{held}
 use Rattle.ff_cache.specs.declared.slot.Slot.{Slot}
-use Rattle.ff_device.specs.Device.{DeviceView, lines_in, parts_of}
-use Rattle.ff_device.specs.Parts.{CanBegin, Parts, bytes_over, cached, is_written, page_below, slot_passes}
-use Rattle.ff_device.specs.StoreState.{PendingFlush, bytes_at, flush_at, seen_of, stored_bytes, stored_in}
+use Rattle.ff_device.specs.Device.{DeviceView, parts_of}
+use Rattle.ff_device.specs.Parts.{CanBegin, Parts, bytes_over, is_written, page_below, slot_passes}
+use Rattle.ff_device.specs.StoreState.{bytes_at, flush_at, seen_of, stored_bytes, stored_in}
 use Rattle.ff_device.proofs.SeenPages.{length-pages, seen_bytes, store_seen, stored_at}
 use Rattle.ff_flash.specs.Cells.{Cell}
-use Rattle.ff_lines.specs.BlankLine.{line_or_blank}
 use Rattle.ff_lines.specs.PageSets.{count_below}
 use Rattle.ff_lines.proofs.PageCounts.{count_below-same}
 use Rattle.ff_map.specs.PageMap.{IsMapSound, mapping_of}
 use Rattle.ff_map.specs.declared.places.Mapping.{Mapping}
-use Rattle.ff_model.specs.Image.{Content, byte_at, held_page}
-use Rattle.ff_mount.proofs.Contents.{content_line}
 use Rattle.ff_mount.proofs.Pages.{way_of_slot}
-use Rattle.ff_mount.proofs.Sounding.{held_over, sound_over}
+use Rattle.ff_mount.proofs.Sounding.{held_over}
 use Rattle.ff_mount.specs.Held.{held_bytes, is_dirty_way, is_held, way_of_page}
 use Rattle.ff_mount.specs.Over.{IsCacheOver, is_dirty_slot, is_mapped_or_dirty, slot_bytes}
-use Rattle.ff_mount.specs.Sound.{AreSound}
 use Rattle.ff_store.proofs.Mounting.{best_mapped}
 use Rattle.ff_store.specs.PageStore.{IsStoreSound, PageStoreView}
 use Rattle.ff_store.specs.Pages.{is_mapped, page_capacity}
 use Rattle.ff_store.specs.Recoverable.{IsRecoverable}
 use Rattle.ff_store.specs.declared.pending.Pending.{Pending}
 use Rattle.ff_window.specs.Window.{WindowView}
-use Rattle.ff_core.specs.Resume.{IsUnpinned, resumed_device}
-use Rattle.ff_core.proofs.ResumeHeld.{content-holds}
+use Rattle.ff_core.specs.Resume.{resumed_device}
 
 -- what every store and every cache keep
 pub record AreParts (store : PageStoreView) (cache : CacheView) : Type 0 where

@@ -1,14 +1,14 @@
 -- The pages that an image of mounted parts holds.
-use Rattle.std.specs.Prelude.{if◌then◌else◌, is_some, map, nat_lt}
+use Rattle.std.specs.Prelude.{if◌then◌else◌, is_some, map}
 use Rattle.std.specs.List.{range_with_len}
-use Rattle.std.proofs.Common.{◌≡◌, ◌≤◌, ◌<◌, ◌+◌, ℕ, zero, suc, Bool, true, false, List, [], ◌∷◌, length, count_by, get_or, Option, Some, None, inl, inr, refl, sym, ap, ◌∙◌, arith}
+use Rattle.std.proofs.Common.{◌≡◌, ℕ, Bool, true, false, List, length, count_by, get_or, Option, Some, None, inl, inr, refl, sym, ap, ◌∙◌}
 use Rattle.std.proofs.Math.ListN.{get_or-map as get_or-map_all}
 use Rattle.std.proofs.lemmas.Bool.{cases_lt, le-ltb, lt-ltb}
 use Rattle.std.proofs.lemmas.List.{length-map}
 use Rattle.std.proofs.lemmas.List.FromFn.{length-range_with_len}
 use Rattle.std.proofs.lemmas.Option.{unwrap_or-slice_get}
 use Rattle.ff_base.specs.declared.geometry.Geometry.{Geometry}
-use Rattle.ff_cache.specs.Nv.{NvView, NvWay}
+use Rattle.ff_cache.specs.Nv.{NvView}
 use Rattle.ff_flash.specs.Cells.{Cell}
 use Rattle.ff_flash.specs.FlashState.{FlashState}
 use Rattle.ff_lines.specs.PageSets.{count_below}

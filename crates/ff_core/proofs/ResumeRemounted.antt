@@ -1,18 +1,15 @@
 -- A session may begin over a store that was mounted again and an empty cache.
-use Rattle.std.proofs.Common.{◌≡◌, ◌≤◌, ◌*◌, ◌^◌, ℕ, true, List, length, Option, Some, None, sym, ap, ◌∙◌, arith}
+use Rattle.std.proofs.Common.{◌≡◌, ◌≤◌, ◌*◌, ◌^◌, ℕ, true, List, length, None, sym, ap, ◌∙◌, arith}
 use Rattle.std.proofs.lemmas.Option.{none-some}
 use Rattle.ff_base.specs.Geometry.{capacity_of}
 use Rattle.ff_base.specs.declared.geometry.Geometry.{Geometry}
-use Rattle.ff_base.specs.declared.numbers.PageNo.{PageNo}
 use Rattle.ff_cache.specs.Cache.{CacheView, fresh_cache}
 use Rattle.ff_cache.specs.Slots.{held}
-use Rattle.ff_cache.specs.declared.slot.Slot.{Slot}
 use Rattle.ff_device.proofs.Rooms.{room_for}
 use Rattle.ff_mount.specs.Over.{IsCacheOver, is_mapped_or_dirty}
 use Rattle.ff_store.proofs.Remounting.{remounted_sizes}
 use Rattle.ff_store.specs.PageStore.{PageStoreView}
 use Rattle.ff_store.specs.Remounted.{IsRemounted}
-use Rattle.ff_store.specs.declared.pending.Pending.{Pending}
 use Rattle.ff_core.specs.Resume.{CanResume}
 use Rattle.ff_core.proofs.Beginning.{none-held}
 

@@ -1,10 +1,9 @@
 -- A resumed session is sound.
-use Rattle.std.specs.Prelude.{is_some, replicate}
-use Rattle.std.proofs.Common.{◌≡◌, ◌≤◌, ◌<◌, ◌+◌, ◌-◌, ◌*◌, ◌/◌, ◌%◌, ◌^◌, ℕ, Bool, true, false, List, [], length, get_or, Option, Some, None, refl, sym, ap, subst, ◌∙◌, arith}
+use Rattle.std.specs.Prelude.{replicate}
+use Rattle.std.proofs.Common.{◌≡◌, ◌<◌, ◌-◌, ◌/◌, ◌%◌, ◌^◌, ℕ, false, List, length, get_or, Option, Some, None, refl, sym, ap, subst, ◌∙◌, arith}
 use Rattle.std.proofs.lemmas.List.{length-replicate}
 use Rattle.ff_base.specs.Geometry.{IsWithinLimits}
 use Rattle.ff_base.specs.declared.geometry.Geometry.{Geometry}
-use Rattle.ff_base.specs.declared.numbers.PageNo.{PageNo}
 use Rattle.ff_cache.specs.Cache.{CacheView}
 use Rattle.ff_cache.specs.Slots.{held}
 use Rattle.ff_cache.specs.declared.slot.Slot.{Slot}
@@ -14,7 +13,7 @@ use Rattle.ff_device.specs.Parts.{slot_passes}
 use Rattle.ff_evict.specs.Picker.{PickerView}
 use Rattle.ff_frames.specs.Frame.{free_frame}
 use Rattle.ff_lines.specs.BlankLine.{line_or_blank}
-use Rattle.ff_model.specs.Image.{Content, byte_at, held_page}
+use Rattle.ff_model.specs.Image.{Content}
 use Rattle.ff_model.specs.Legal.{Opening, opening_of}
 use Rattle.ff_mount.proofs.Contents.{content_line}
 use Rattle.ff_mount.proofs.Sounding.{sound_over}

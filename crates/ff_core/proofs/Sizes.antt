@@ -11,8 +11,7 @@ use Rattle.ff_memory.specs.declared.access.Side.TheVariants.{Device, Host, Neith
 use Rattle.ff_model.specs.declared.op.Op.{Op}
 use Rattle.ff_plb.specs.Plb.{slot_at}
 use Rattle.ff_policy.specs.Counters.{raised_count}
-use Rattle.ff_policy.specs.Policy.{PolicyView, StepsWhere, counted, counter_of}
-use Rattle.ff_policy.specs.declared.policy.TheConstants.{STEP_ACCESSES}
+use Rattle.ff_policy.specs.Policy.{PolicyView, StepsWhere, counted, counter_of, step_accesses}
 use Rattle.ff_device.specs.Device.{lines_in, own_of, parts_of}
 use Rattle.ff_device.specs.Parts.{SameShape}
 use Rattle.ff_core.specs.Hierarchy.{HierarchyView, lines_under}
@@ -159,7 +158,7 @@ stepped-counters {T} false answers old new is = ap (λ (p : PolicyView T). lengt
 pub counted-counters : {T : Type 0} (side : Side) (page : ℕ) (answers : T → ℕ → ℕ → ℕ → ℕ → Type 0) (old new : PolicyView T)
     → PolicyAfter side page answers old new → length new.counters ≡ length old.counters
 counted-counters Device page answers old new is =
-    stepped-counters ((counted page old).recent == STEP_ACCESSES) answers (counted page old) new is
+    stepped-counters ((counted page old).recent == step_accesses) answers (counted page old) new is
     ∙ length-set old.counters page (raised_count (counter_of old page))
 counted-counters {T} Host page answers old new is = ap (λ (p : PolicyView T). length p.counters) is
 counted-counters {T} Neither page answers old new is = ap (λ (p : PolicyView T). length p.counters) is

@@ -16,8 +16,7 @@ use Rattle.ff_plb.specs.declared.slot.Flight.{Flight}
 use Rattle.ff_plb.specs.declared.slot.Slot.{Slot}
 use Rattle.ff_plb.specs.declared.slot.Way.{Way}
 use Rattle.ff_plb.specs.declared.slot.Way.TheVariants.{Coming, Leaving}
-use Rattle.ff_policy.specs.Policy.{PolicyView, StepsWhere, counted}
-use Rattle.ff_policy.specs.declared.policy.TheConstants.{STEP_ACCESSES}
+use Rattle.ff_policy.specs.Policy.{PolicyView, StepsWhere, counted, step_accesses}
 use Rattle.ff_core.specs.Backs.{back_of}
 use Rattle.ff_core.specs.Choices.{IsChoice}
 use Rattle.ff_core.specs.CoreSound.{is_promotion_by, is_start}
@@ -151,7 +150,7 @@ pub served-alike : {T : Type 0} (side : Side) (page : ℕ) (answers : T → ℕ 
     (tally : Tally) → PolicyAfter side page answers old new → CountsAlike old tally → CountsAlike new (served_by side tally)
 served-alike Device page answers old new tally is alike =
     let accesses = alike.accesses in
-    stepped-alike ((counted page old).recent == STEP_ACCESSES) answers (counted page old) new (served_by Device tally) is
+    stepped-alike ((counted page old).recent == step_accesses) answers (counted page old) new (served_by Device tally) is
     (record { promotions = alike.promotions; accesses = omega arith; hits = alike.hits })
 served-alike Host page answers old new tally is alike =
     let hits = alike.hits in

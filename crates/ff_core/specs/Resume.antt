@@ -1,5 +1,5 @@
 -- How a session begins over a mounted store and cache.
-use Rattle.std.specs.Prelude.{ℕ, ◌+◌, ◌<◌, ◌≤◌, ◌≡◌, ◌^◌, [], false, true, Bool, List, Option, None, Some, length, map, is_some}
+use Rattle.std.specs.Prelude.{ℕ, ◌+◌, ◌≤◌, ◌≡◌, ◌^◌, [], false, true, Bool, List, None, Some, length, map, is_some}
 use Rattle.ff_base.specs.Geometry.{capacity_of}
 use Rattle.ff_base.specs.declared.geometry.Geometry.{Geometry}
 use Rattle.ff_cache.specs.Cache.{CacheView}
@@ -10,7 +10,6 @@ use Rattle.ff_evict.specs.Picker.{PickerView}
 use Rattle.ff_memory.specs.Memory.{MemoryView, fresh_memory}
 use Rattle.ff_model.specs.Image.{Content}
 use Rattle.ff_model.specs.Legal.{opening_of}
-use Rattle.ff_mount.specs.Held.{held_content, nv_of}
 use Rattle.ff_mount.specs.Over.{IsCacheOver}
 use Rattle.ff_policy.specs.Policy.{fresh_policy}
 use Rattle.ff_policy.specs.Tuner.{TunerView}

@@ -1,14 +1,13 @@
 -- What one event of a call makes of a core.
-use Rattle.std.specs.Prelude.{ℕ, ◌≡◌, ◌==◌, Bool, true, false, not, Option, Some, None, length, if◌then◌else◌}
-use Rattle.ff_base.specs.Count.{last_event}
+use Rattle.std.specs.Prelude.{ℕ, ◌≡◌, Bool, true, false, Option, Some, None, length}
 use Rattle.ff_base.specs.declared.numbers.Caller.{Caller}
 use Rattle.ff_base.specs.declared.numbers.PageNo.{PageNo}
 use Rattle.ff_memory.specs.declared.access.Access.TheVariants.{Served as AccessServed, Miss as AccessMiss}
 use Rattle.ff_memory.specs.declared.access.Side.{Side}
-use Rattle.ff_model.specs.Spans.{is_in_range}
+use Rattle.ff_model.specs.Legal.{refusal}
 use Rattle.ff_model.specs.declared.op.Op.{Op}
 use Rattle.ff_model.specs.declared.op.Reply.{Reply}
-use Rattle.ff_model.specs.declared.op.Reply.TheVariants.{Range, Spent, Fault}
+use Rattle.ff_model.specs.declared.op.Reply.TheVariants.{Fault}
 use Rattle.ff_core.specs.Core.{CoreView, entry_now, next_number, with_entry}
 use Rattle.ff_core.specs.Hierarchy.{HierarchyView, flash_under}
 use Rattle.ff_core.specs.Misses.{IsMissAction}
@@ -20,13 +19,6 @@ use Rattle.ff_core.specs.declared.action.Progress.{Progress}
 use Rattle.ff_core.specs.declared.action.Progress.TheVariants.{Did, Failed, Off as ProgressOff}
 use Rattle.ff_core.specs.declared.turn.Turn.{Turn}
 use Rattle.ff_core.specs.declared.turn.Turn.TheVariants.{Served, Miss, Off}
-
--- a call that names what isn't there, or that comes at the last event number, is refused
-abbrev pub refusal : ℕ → ℕ → Op → Option Reply
-refusal pages event op =
-    if not (is_in_range pages op) then Some Range
-    else if event == last_event then Some Spent
-    else None
 
 -- a call was answered, and nothing else was done
 abbrev pub answered : {T E : Type 0} → CoreView T E → Caller → ℕ → Op → Reply → CoreView T E

@@ -1,7 +1,6 @@
 // A core: a session whose history is legal after every event.
-ghost use Rattle.std.specs.Prelude.{◌≡◌, ◌<◌, ◌≤◌, ◌+◌, ◌^◌, replicate, MatchResult, true};
+ghost use Rattle.std.specs.Prelude.{◌≡◌, ◌<◌, ◌^◌, MatchResult};
 ghost use Rattle.ff_base.specs.Geometry.{IsWithinLimits};
-ghost use Rattle.ff_flash.specs.Cells.{erased};
 ghost use Rattle.ff_lines.specs.DeviceState.{IsDevice};
 ghost use Rattle.ff_memory.specs.Memory.{IsMemorySound};
 ghost use Rattle.ff_model.specs.Legal.{IsLegal};

@@ -1,5 +1,5 @@
 // The choice of the page that goes back to the SSD.
-ghost use Rattle.std.specs.Prelude.{ℕ, ◌≡◌, ◌+◌, ◌%◌, ◌<◌, ◌≤◌, ◌↔◌, IsTrue, MatchOption, length};
+ghost use Rattle.std.specs.Prelude.{◌≡◌, ◌+◌, ◌%◌, ◌<◌, ◌↔◌, IsTrue, MatchOption, length};
 ghost use Rattle.ff_evict.specs.Best.{IsBestOfFirst};
 ghost use Rattle.ff_evict.specs.Choice.{IsChosenFrame, IsNoneToRetreat, MayRetreat, score_of, steps_after};
 ghost use Rattle.ff_evict.specs.Evictor.{IsHandInside};

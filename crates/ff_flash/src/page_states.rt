@@ -63,7 +63,7 @@ fn programmed(state: PageState, spare: Spare, injected: Injected) -> PageState
 }
 
 // The state of a closed page after a seal.
-fn sealed(state: PageState, injected: Injected) -> PageState
+fn sealed_state(state: PageState, injected: Injected) -> PageState
     ensures { (bytes : List ℕ)
         → cell_of result bytes ≡ cell_after seal injected (cell_of state bytes) }
 {
@@ -77,7 +77,7 @@ fn sealed(state: PageState, injected: Injected) -> PageState
 }
 
 // The state of a page after an erase of the block of which it is the page of this number.
-fn erased(state: PageState, page: u32, injected: Injected) -> PageState
+fn erased_state(state: PageState, page: u32, injected: Injected) -> PageState
     ensures { (bytes : List ℕ)
         → cell_of result bytes ≡ cell_after (erase page) injected (cell_of state bytes) }
 {
@@ -114,7 +114,7 @@ pub fn seal_at(states: &mut Vec<PageState>, at: u32, injected: Injected)
     ensures len { vec_len states.new ≡ vec_len states.old }
 {
     let place = at as usize;
-    states[place] = sealed(states[place], injected);
+    states[place] = sealed_state(states[place], injected);
 }
 
 /// Erases the pages of a block, of which the first and the number are given.
@@ -125,6 +125,6 @@ pub fn erase_at(states: &mut Vec<PageState>, first: u32, count: u32, injected: I
 {
     for i in 0..count {
         let place = first as usize + i as usize;
-        states[place] = erased(states[place], i, injected);
+        states[place] = erased_state(states[place], i, injected);
     }
 }

@@ -1,5 +1,5 @@
 // Which frames are in use, so that the least free one is found without a pass over the frames.
-ghost use Rattle.std.specs.Prelude.{ℕ, ◌≡◌, ◌+◌, ◌*◌, ◌/◌, ◌<◌, ◌≤◌, ◌^◌, ◌==◌, ◌||◌, ◌&&◌, not, IfOk, MatchOption, length, replicate};
+ghost use Rattle.std.specs.Prelude.{ℕ, ◌≡◌, ◌+◌, ◌*◌, ◌/◌, ◌<◌, ◌^◌, ◌==◌, ◌||◌, ◌&&◌, not, IfOk, MatchOption, length, replicate};
 ghost use Rattle.ff_lines.specs.LineMask.{no_lines};
 
 use ff_base::NoMemory;

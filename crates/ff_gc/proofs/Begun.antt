@@ -27,7 +27,8 @@ use Rattle.ff_gc.proofs.Keeping.{ready_changed}
 use Rattle.ff_gc.proofs.Numbers.{block_of_place, place_from, rest_of_place}
 use Rattle.ff_gc.proofs.PageCopies.{at_phase}
 use Rattle.ff_gc.proofs.Tables.{KeepsPages, none_after, only_changed, state_after, tabled_changed}
-use Rattle.ff_gc.specs.Running.{HasStale, is_in, mapped_in}
+use Rattle.ff_gc.specs.Running.{HasStale}
+use Rattle.ff_map.specs.MappedPages.{is_in, mapped_in}
 use Rattle.ff_gc.specs.Steps.{begun_with, job_of}
 use Rattle.ff_gc.specs.World.{IsCollectorReady, World}
 use Rattle.ff_gc.specs.declared.phase.Phase.TheVariants.{Idle, Reading}

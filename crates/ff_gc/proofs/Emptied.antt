@@ -34,7 +34,8 @@ use Rattle.ff_gc.proofs.Tables.{
 }
 use Rattle.ff_gc.specs.Cells.{HasNoPage}
 use Rattle.ff_gc.specs.Collector.{CollectorView}
-use Rattle.ff_gc.specs.Running.{IsEmptying, IsLive, IsTabled, is_in, mapped_in}
+use Rattle.ff_gc.specs.Running.{IsEmptying, IsLive, IsTabled}
+use Rattle.ff_map.specs.MappedPages.{is_in, mapped_in}
 use Rattle.ff_gc.specs.Steps.{ErasesBlock, emptying, given_up}
 use Rattle.ff_gc.specs.World.{IsCollectorReady, Keeps, World}
 use Rattle.ff_gc.specs.declared.collector.GcStep.{GcStep}

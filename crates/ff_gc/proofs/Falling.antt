@@ -28,7 +28,7 @@ use Rattle.ff_gc.proofs.PageCopies.{at_phase}
 use Rattle.ff_gc.proofs.Switching.{can_end}
 use Rattle.ff_gc.specs.Collector.{CollectorView}
 use Rattle.ff_gc.specs.Left.{IsEnding, IsEndingAt, is_open, left_from, left_in, open_count}
-use Rattle.ff_gc.specs.Originals.{IsAfter, IsNext, move_to, past}
+use Rattle.ff_gc.specs.Originals.{IsAfter, IsNextOriginal, move_to, past}
 use Rattle.ff_gc.specs.Running.{HasStale, HasStaleBeside, IsCommitting, IsEmptying}
 use Rattle.ff_gc.specs.Steps.{Begins, Commits, ErasesBlock, IsStep, IsStepAt, ProgramsNext, ReadsNext, SealsCopy, begun_with, empty, emptying, full, given_up, idle, job_of, mapped, none, programs, reads}
 use Rattle.ff_gc.specs.World.{IsCollectorReady, World}
@@ -40,7 +40,7 @@ use Rattle.ff_gc.specs.declared.phase.Phase.{Phase}
 use Rattle.ff_gc.specs.declared.phase.Phase.TheVariants.{Idle, Programming, Reading, Sealing, Commit, Erasing, Aborting}
 
 -- what is seen of a victim is before the page that is next
-seen_before : (per : ℕ) (places : MapView) (job : Job) (original : Original) → IsNext per places job original
+seen_before : (per : ℕ) (places : MapView) (job : Job) (original : Original) → IsNextOriginal per places job original
     → job.seen ≤ original.from.0 % per
 seen_before per places job original next =
     let is = place_is per original.from.0 job.victim.0 next.from_in in let unseen = next.unseen in omega arith

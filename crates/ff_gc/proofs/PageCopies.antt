@@ -25,7 +25,7 @@ use Rattle.ff_gc.proofs.Retaining.{retains_programmed, retains_same}
 use Rattle.ff_gc.proofs.Tables.{KeepsPages, none_after, only_changed, state_after, tabled_programmed}
 use Rattle.ff_gc.specs.Cells.{AreMapped}
 use Rattle.ff_gc.specs.Collector.{CollectorView}
-use Rattle.ff_gc.specs.Originals.{IsNext, spare_in}
+use Rattle.ff_gc.specs.Originals.{IsNextOriginal, spare_in}
 use Rattle.ff_gc.specs.Running.{AreBlocks, AreCopies, HasStale, HasStaleBeside, IsAt, IsInHand, IsLive, IsProgramming, IsReading, IsTabled}
 use Rattle.ff_gc.specs.Steps.{ProgramsCopy, ReadsPage, next_place}
 use Rattle.ff_gc.specs.World.{IsCollectorReady, Keeps, World}
@@ -46,13 +46,13 @@ at_phase w phase ready is = subst (λ p. IsAt w.gc w.flash.cells w.table w.place
 
 -- the cell of the next page
 pub next_cell : (per : ℕ) (cells : List Cell) (places : MapView) (job : Job) (original : Original)
-    → AreMapped None cells places → IsNext per places job original
+    → AreMapped None cells places → IsNextOriginal per places job original
     → cell_at cells original.from.0 ≡ sealed (cell_bytes (cell_at cells original.from.0)) (spare_in original)
 next_cell per cells places job original s next =
     s.placed original.page (record { at = original.from; version = original.version }) next.is
 
 pub next_sealed : (per : ℕ) (cells : List Cell) (places : MapView) (job : Job) (original : Original)
-    → AreMapped None cells places → IsNext per places job original
+    → AreMapped None cells places → IsNextOriginal per places job original
     → IsSealed (cell_at cells original.from.0)
 next_sealed per cells places job original s next = rw (next_cell per cells places job original s next) tt
 
@@ -60,7 +60,7 @@ next_sealed per cells places job original s next = rw (next_cell per cells place
 in_hand : (per : ℕ) (moves : List Move) (bytes : List ℕ) (cells : List Cell) (table : TableView)
     (places : MapView) (job : Job) (original : Original)
     → IsReading per moves cells table places job → AreMapped None cells places
-    → IsNext per places job original → bytes ≡ cell_bytes (cell_at cells original.from.0)
+    → IsNextOriginal per places job original → bytes ≡ cell_bytes (cell_at cells original.from.0)
     → IsInHand per moves bytes cells places job original
 in_hand per moves bytes cells table places job original reading s next is = record {
   cell = next_cell per cells places job original s next ∙ ap (λ b. sealed b (spare_in original)) (sym is);
@@ -81,7 +81,7 @@ in_hand per moves bytes cells table places job original reading s next is = reco
 }
 
 stale_beside : (per : ℕ) (moves : List Move) (places : MapView) (job : Job) (original : Original)
-    → HasStale per moves places job → IsNext per places job original
+    → HasStale per moves places job → IsNextOriginal per places job original
     → HasStaleBeside per moves places job original.from
 stale_beside per moves places job original stale next = record {
   place = stale.place;
@@ -95,7 +95,7 @@ stale_beside per moves places job original stale next = record {
 -- a page of the victim is read
 pub reads_kept : (old new : World) (job : Job) (original : Original)
     (result : Result GcStep FlashStop) → IsCollectorReady old → old.gc.phase ≡ Reading job
-    → IsNext old.gc.per_block old.places job original → ReadsPage old job original result new
+    → IsNextOriginal old.gc.per_block old.places job original → ReadsPage old job original result new
     → Keeps old new
 reads_kept old new job original (Ok step) ready phase next r =
     let reading = at_phase old (Reading job) ready phase in

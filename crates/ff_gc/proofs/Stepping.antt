@@ -11,7 +11,7 @@ use Rattle.ff_gc.proofs.Keeping.{keeps_after, same_changed}
 use Rattle.ff_gc.proofs.PageCopies.{at_phase, programs_kept, reads_kept}
 use Rattle.ff_gc.proofs.PageSeals.{seals_kept}
 use Rattle.ff_gc.proofs.Committed.{commits_kept}
-use Rattle.ff_gc.specs.Originals.{IsAllSeen, IsNext}
+use Rattle.ff_gc.specs.Originals.{IsAllSeen, IsNextOriginal}
 use Rattle.ff_gc.specs.Steps.{
   Begins,
   IsStep,
@@ -40,7 +40,7 @@ use Rattle.ff_gc.specs.declared.phase.Phase.TheVariants.{Idle, Programming, Read
 
 -- where a page is next, not all is seen
 pub not_all_seen : (per : ℕ) (places : MapView) (job : Job) (original : Original)
-    → IsNext per places job original → IsAllSeen per places job → ⊥
+    → IsNextOriginal per places job original → IsAllSeen per places job → ⊥
 not_all_seen per places job original next all =
     let below = all original.page (record { at = original.from; version = original.version }) next.is next.from_in in
     let unseen = next.unseen in

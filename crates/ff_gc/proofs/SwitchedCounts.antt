@@ -16,7 +16,8 @@ use Rattle.ff_space.specs.declared.block.BlockState.TheVariants.{Erased, Full, H
 use Rattle.ff_map.specs.PageMap.{IsSwitched, MapView, mapping_of}
 use Rattle.ff_map.specs.declared.places.Mapping.{Mapping}
 use Rattle.ff_gc.proofs.Counting.{count_alike, count_zero}
-use Rattle.ff_gc.specs.Running.{IsTabled, is_in, mapped_in}
+use Rattle.ff_gc.specs.Running.{IsTabled}
+use Rattle.ff_map.specs.MappedPages.{is_in, mapped_in}
 use Rattle.ff_gc.specs.World.{IsCollectorReady, World}
 use Rattle.ff_gc.specs.declared.phase.Job.{Job}
 use Rattle.ff_gc.proofs.Switching.{IsCommittingIn, can_end, into_empty}

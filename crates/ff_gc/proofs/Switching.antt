@@ -13,7 +13,8 @@ use Rattle.ff_map.specs.declared.places.Move.{Move}
 use Rattle.ff_gc.proofs.Counting.{IsListed, count_listed}
 use Rattle.ff_gc.proofs.Emptied.{no_page_of}
 use Rattle.ff_gc.specs.Cells.{HasNoPage}
-use Rattle.ff_gc.specs.Running.{IsCommitting, is_in}
+use Rattle.ff_gc.specs.Running.{IsCommitting}
+use Rattle.ff_map.specs.MappedPages.{is_in}
 use Rattle.ff_gc.specs.World.{IsCollectorReady, World}
 use Rattle.ff_gc.specs.declared.phase.Job.{Job}
 

@@ -14,7 +14,8 @@ use Rattle.ff_space.specs.declared.block.BlockEntry.{BlockEntry}
 use Rattle.ff_space.specs.declared.block.BlockState.{BlockState}
 use Rattle.ff_space.specs.declared.block.BlockState.TheVariants.{Waiting}
 use Rattle.ff_map.specs.PageMap.{MapView}
-use Rattle.ff_gc.specs.Running.{IsOnlyBlock, IsTabled, mapped_in}
+use Rattle.ff_gc.specs.Running.{IsOnlyBlock, IsTabled}
+use Rattle.ff_map.specs.MappedPages.{mapped_in}
 
 pub within_of : (table : TableView) (block : ℕ) (change : BlockEntry → BlockEntry) (other : ℕ)
     → other < length (changed_at table block change).blocks → other < length table.blocks

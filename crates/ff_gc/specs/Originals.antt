@@ -41,7 +41,7 @@ pub record IsThere (places : MapView) (from : Ppn) (original : Original) : Type 
       ≡ Some (record { at = from; version = original.version })
 
 -- the first page that is mapped in the victim behind what is seen
-pub record IsNext (per_block : ℕ) (places : MapView) (job : Job) (original : Original)
+pub record IsNextOriginal (per_block : ℕ) (places : MapView) (job : Job) (original : Original)
     : Type 0 where
   pub is : mapping_of places original.page
       ≡ Some (record { at = original.from; version = original.version })

@@ -1,5 +1,5 @@
 -- What holds between collector, cells, block table and page map while the power is on.
-use Rattle.std.specs.Prelude.{ℕ, ◌+◌, ◌*◌, ◌/◌, ◌%◌, ◌<◌, ◌≤◌, ◌≡◌, ◌≢◌, ◌==◌, Bool, false, List, length, All, AllPairs, Any, Option, None, Some, count_by}
+use Rattle.std.specs.Prelude.{ℕ, ◌+◌, ◌*◌, ◌/◌, ◌%◌, ◌<◌, ◌≤◌, ◌≡◌, ◌≢◌, List, length, All, AllPairs, Any, Some}
 use Rattle.ff_base.specs.declared.numbers.Block.{Block}
 use Rattle.ff_base.specs.declared.numbers.PageNo.{PageNo}
 use Rattle.ff_base.specs.declared.numbers.Ppn.{Ppn}
@@ -9,6 +9,7 @@ use Rattle.ff_space.specs.BlockTable.{TableView, IsInState, block_at}
 use Rattle.ff_space.specs.Choices.{NoBlock}
 use Rattle.ff_space.specs.declared.block.BlockState.{BlockState}
 use Rattle.ff_space.specs.declared.block.BlockState.TheVariants.{Erased, Full, Held, Waiting}
+use Rattle.ff_map.specs.MappedPages.{mapped_in}
 use Rattle.ff_map.specs.PageMap.{MapView, mapping_of}
 use Rattle.ff_map.specs.declared.places.Mapping.{Mapping}
 use Rattle.ff_map.specs.declared.places.Move.{Move}
@@ -18,15 +19,6 @@ use Rattle.ff_gc.specs.declared.phase.Job.{Job}
 use Rattle.ff_gc.specs.declared.phase.Original.{Original}
 use Rattle.ff_gc.specs.declared.phase.Phase.{Phase}
 use Rattle.ff_gc.specs.declared.phase.Phase.TheVariants.{Idle, Reading, Programming, Sealing, Commit, Erasing, Aborting}
-
--- a mapping lies in the block
-abbrev pub is_in : ℕ → ℕ → Option Mapping → Bool
-is_in per_block block None = false
-is_in per_block block (Some m) = m.at.0 / per_block == block
-
--- how many pages are mapped in the block
-abbrev pub mapped_in : ℕ → MapView → ℕ → ℕ
-mapped_in per_block places block = count_by (λ m. is_in per_block block m) places.pages
 
 -- the table against the map and the cells: mapped pages are counted by block, and the pages of a block from its write
 -- place on are erased

@@ -14,7 +14,7 @@ use Rattle.ff_space.specs.declared.block.BlockState.TheVariants.{Erased as Erase
 use Rattle.ff_map.specs.PageMap.{IsSwitched}
 use Rattle.ff_gc.specs.Collector.{CollectorView}
 use Rattle.ff_gc.specs.Counts.{begun}
-use Rattle.ff_gc.specs.Originals.{IsAfter, IsAllSeen, IsNext, move_to, past, spare_in}
+use Rattle.ff_gc.specs.Originals.{IsAfter, IsAllSeen, IsNextOriginal, move_to, past, spare_in}
 use Rattle.ff_gc.specs.World.{World}
 use Rattle.ff_gc.specs.declared.collector.GcStep.{GcStep}
 use Rattle.ff_gc.specs.declared.collector.GcStep.TheVariants.{Idle as IdleStep, Read, Programmed, Sealed, Committed, Erased, Aborted}
@@ -139,7 +139,7 @@ pub record ErasesBlock (old : World) (block : Block) (ends : GcStep)
 -- the next page of the victim that is still mapped there is read. Where there is none, as in Commit
 pub data ReadsNext (old : World) (job : Job) (result : Result GcStep FlashStop) (new : World)
     : Type 0 where
-  reads : (original : Original) → IsNext old.gc.per_block old.places job original
+  reads : (original : Original) → IsNextOriginal old.gc.per_block old.places job original
       → ReadsPage old job original result new → ReadsNext old job result new
   none : IsAllSeen old.gc.per_block old.places job → Commits old job result new
       → ReadsNext old job result new

@@ -1,7 +1,7 @@
 // Which page of the victim is copied next.
 ghost use Rattle.std.specs.Prelude.{◌≡◌, ◌+◌, ◌*◌, ◌<◌, ◌≤◌, ◌^◌, MatchOption};
 ghost use Rattle.ff_map.specs.PageMap.{IsFree};
-ghost use Rattle.ff_gc.specs.Originals.{IsAfter, IsAllSeen, IsNext, IsThere, move_to, past, spare_in};
+ghost use Rattle.ff_gc.specs.Originals.{IsAfter, IsAllSeen, IsNextOriginal, IsThere, move_to, past, spare_in};
 
 use crate::phase::{Job, Original, Phase};
 use ff_base::Ppn;
@@ -48,7 +48,7 @@ pub fn next_original(map: &PageMap, per_block: u32, job: Job) -> Option<Original
     requires seen { job.seen ≤ per_block }
     requires small { job.victim.0 * per_block + per_block < 2 ^ 32 }
     ensures { MatchOption result (IsAllSeen per_block map.now job)
-        (λ original. IsNext per_block map.now job original) }
+        (λ original. IsNextOriginal per_block map.now job original) }
 {
     let first = job.victim.0 * per_block;
     for place in job.seen..per_block {

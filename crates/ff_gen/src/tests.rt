@@ -1,3 +1,4 @@
+// Rows that numbers make.
 use super::*;
 use ff_base::{Caller, PageNo};
 use ff_model::{Kind, Op, Piece};

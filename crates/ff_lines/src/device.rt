@@ -1,5 +1,5 @@
 // What the memory asks of a device of lines.
-ghost use Rattle.std.specs.Prelude.{◌≡◌, ◌<◌, ◌≤◌, ◌+◌, ◌^◌, ℕ, length, true, false};
+ghost use Rattle.std.specs.Prelude.{◌≡◌, ◌<◌, ◌≤◌, ◌+◌, ◌^◌, length, true, false};
 ghost use Rattle.ff_lines.specs.DeviceState.{DeviceState, HasRoom, IsDevice, IsDrained, IsPinned, IsPosted, line_at};
 ghost use Rattle.ff_lines.specs.Works.{IsIdle, KeepsLines, Works};
 

@@ -1,5 +1,5 @@
 // A set of lines as a mask of 64 bits.
-ghost use Rattle.std.specs.Prelude.{◌≡◌, ◌<◌, ◌≤◌, ◌+◌, ◌==◌, ◌||◌, ◌&&◌, ℕ, not, IfSome, IsNone, IsTrue, ◌↔◌};
+ghost use Rattle.std.specs.Prelude.{◌≡◌, ◌<◌, ◌≤◌, ◌+◌, ◌==◌, ◌||◌, ◌&&◌, ℕ, not, IfSome, IsNone, ◌↔◌};
 ghost use Rattle.ff_lines.specs.LineMask.{has_line, IsLeastClear, IsLineRange, HasEveryLine, mask_with, mask_without, mask_others};
 
 /// A set of a page's lines, in which bit i stands for line i.

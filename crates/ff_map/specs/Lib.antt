@@ -1,3 +1,4 @@
+pub mod MappedPages
 pub mod Owners
 pub mod PageMap
 pub mod PageMapFields

@@ -1,5 +1,5 @@
 // Which side serves a line, and the parts of an address.
-ghost use Rattle.std.specs.Prelude.{◌≡◌, ◌+◌, ◌<◌, ◌≤◌, ◌/◌, ◌%◌, ◌==◌, slice_range, length};
+ghost use Rattle.std.specs.Prelude.{◌≡◌, ◌+◌, ◌<◌, ◌≤◌, ◌/◌, ◌%◌, slice_range};
 ghost use Rattle.ff_memory.specs.Places.{frame_in_flight, frame_of_home, line_in_page, page_of, place_in_line, store_in_flight};
 ghost use Rattle.ff_memory.specs.Stores.{carries_by};
 

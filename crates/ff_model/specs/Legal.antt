@@ -1,5 +1,5 @@
 -- Which histories are legal: those of a flat byte array.
-use Rattle.std.specs.Prelude.{ℕ, ◌+◌, ◌/◌, ◌≤◌, ◌<◌, ◌≡◌, ◌⊎◌, ◌==◌, ◌&&◌, not, min, Bool, true, false, IsTrue, if◌then◌else◌, List, [], ◌∷◌, ◌++◌, map, fold, take, slice_get, Some}
+use Rattle.std.specs.Prelude.{ℕ, ◌+◌, ◌/◌, ◌≤◌, ◌<◌, ◌≡◌, ◌⊎◌, ◌==◌, ◌&&◌, not, min, Bool, true, false, IsTrue, if◌then◌else◌, List, [], ◌∷◌, ◌++◌, map, fold, take, slice_get, Option, None, Some, unwrap_or}
 use Rattle.std.specs.List.{range_with_len}
 use Rattle.ff_base.specs.Count.{last_event}
 use Rattle.ff_base.specs.Geometry.{capacity_of}
@@ -48,14 +48,18 @@ served_reply byte Verify = Done
 served_reply byte (Mark page from count) = Done
 served_reply byte (Release page from count) = Done
 
--- the reply that refuses a call, or that serves it: the first line that applies. The pages, whether the call is refused
--- for want of a place, the byte at each address, and the event number are those of its moment
+-- a call that names what isn't there, or that comes at the last event number, is refused
+abbrev pub refusal : ℕ → ℕ → Op → Option Reply
+refusal pages event op =
+    if not (is_in_range pages op) then Some Range
+    else if event == last_event then Some Spent
+    else None
+
+-- the reply that refuses a call, or that serves it. The pages, whether the call is refused for want of a place, the byte
+-- at each address, and the event number are those of its moment
 abbrev pub reply_over : ℕ → Bool → (ℕ → ℕ) → ℕ → Op → Reply
 reply_over pages refused byte event op =
-    if not (is_in_range pages op) then Range
-    else if event == last_event then Spent
-    else if refused then Full
-    else served_reply byte op
+    unwrap_or (refusal pages event op) (if refused then Full else served_reply byte op)
 
 -- the call is a store to a page that isn't born, behind entries after which as many are born as the flash can hold
 abbrev pub is_refused : Opening → List Entry → Op → Bool

@@ -1,6 +1,6 @@
 // The flat byte of a history, by its definition.
 ghost use Rattle.std.specs.Prelude.{◌≡◌};
-ghost use Rattle.ff_model.specs.Flat.{covering_byte, flat_byte_of, is_done, latest, stored_byte};
+ghost use Rattle.ff_model.specs.Flat.{covering_byte, flat_byte_of, latest, stored_byte};
 
 use crate::{Entry, History, Image, Op, Reply};
 

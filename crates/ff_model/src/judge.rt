@@ -1,10 +1,10 @@
 // Which entry of a history is the first that a flat byte array would not have.
-ghost use Rattle.std.specs.Prelude.{◌≡◌, ◌≤◌, ◌<◌, ◌+◌, ◌/◌, ◌↔◌, ◌⊎◌, IfSome, IfNone, IsTrue, is_some, length, min};
+ghost use Rattle.std.specs.Prelude.{◌≡◌, ◌<◌, ◌+◌, ◌/◌, ◌↔◌, ◌⊎◌, IfSome, IfNone, IsTrue, is_some, min};
 ghost use Rattle.std.specs.List.{list_any};
 ghost use Rattle.ff_base.specs.Count.{last_event};
 ghost use Rattle.ff_base.specs.Geometry.{IsWithinLimits};
 ghost use Rattle.ff_base.specs.declared.numbers.TheConstants.{PAGE_BYTES};
-ghost use Rattle.ff_model.specs.Flat.{bears, born_count, flat_byte_of, is_born, is_done, stores_to};
+ghost use Rattle.ff_model.specs.Flat.{bears, born_count, flat_byte_of, is_born, stores_to};
 ghost use Rattle.ff_model.specs.Image.{held_page};
 ghost use Rattle.ff_model.specs.Legal.{IsFault, IsFirstIllegal, IsLegal, MayFollow, due_reply, faults_after, is_refused, is_served, may_fault, next_event, opening_of, served_reply, span_bytes};
 ghost use Rattle.ff_model.specs.Judge.{opening_in};

@@ -1,5 +1,5 @@
 // The image of mounted parts.
-ghost use Rattle.std.specs.Prelude.{◌≡◌, ◌+◌, ◌≤◌, ◌^◌, true, false, length, replicate, IfOk, IfErr, None};
+ghost use Rattle.std.specs.Prelude.{◌≡◌, ◌+◌, ◌≤◌, ◌^◌, true, length, replicate, IfOk, IfErr, None};
 ghost use Rattle.ff_base.specs.Geometry.{IsWithinLimits};
 ghost use Rattle.ff_cache.specs.Nv.{ways_of};
 ghost use Rattle.ff_model.specs.Image.{empty_content};

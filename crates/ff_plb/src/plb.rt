@@ -1,5 +1,5 @@
 // The slots of the buffer.
-ghost use Rattle.std.specs.Prelude.{ℕ, ◌≡◌, ◌≢◌, ◌<◌, ◌^◌, ◌↔◌, not, IfOk, IfSome, IsSome, IsTrue, MatchOption, None, Some, option_copied, option_map, replicate, length};
+ghost use Rattle.std.specs.Prelude.{ℕ, ◌≡◌, ◌<◌, ◌↔◌, not, IfOk, IfSome, IsSome, IsTrue, MatchOption, None, Some, option_copied, option_map, replicate, length};
 ghost use Rattle.ff_lines.specs.LineMask.{has_line, mask_others};
 ghost use Rattle.ff_plb.specs.NextStep.{IsLeastNext, IsNextIn, IsNoneNext};
 ghost use Rattle.ff_plb.specs.Plb.{ArePagesApart, HasEntry, HasFlight, IsEmpty, IsFound, IsInUse, IsLeastEmpty, IsNoneEmpty, entry_if, entry_of, slot_at, with_slot};
@@ -128,7 +128,8 @@ impl Plb {
 
     /// The least slot with a page that goes this way and whose next step is this.
     pub fn least_next(&self, way: Way, step: NextStep) -> Option<u32>
-        ensures { MatchOption result (IsNoneNext self.now way step) (IsLeastNext self.now way step) }
+        ensures { MatchOption result (IsNoneNext self.now way step)
+            (IsLeastNext self.now way step) }
     {
         let slot = first_next(&self.slots, way, step)?;
         Some(slot as u32)

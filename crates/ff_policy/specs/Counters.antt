@@ -3,6 +3,10 @@ use Rattle.std.specs.Prelude.{ℕ, ◌≡◌, ◌+◌, ◌/◌, ◌==◌, false,
 use Rattle.std.specs.List.{list_any}
 use Rattle.ff_base.specs.declared.numbers.PageNo.{PageNo}
 
+-- there is room for so many counters that aren't zero
+abbrev pub most_counted : ℕ
+most_counted = 128
+
 -- a counter after one more access
 abbrev pub raised_count : ℕ → ℕ
 raised_count count = min (count + 1) 255

@@ -2,7 +2,10 @@
 use Rattle.std.specs.Prelude.{ℕ, ◌≡◌, ◌+◌, ◌*◌, ◌<◌, ◌≤◌, ◌==◌, ◌^◌, Bool, true, false, List, sum, replicate, slice_index, slice_set}
 use Rattle.ff_policy.specs.Counters.{halved, raised_count}
 use Rattle.ff_policy.specs.Tuner.{TunerView}
-use Rattle.ff_policy.specs.declared.policy.TheConstants.{STEP_ACCESSES}
+
+-- the device accesses from one step of the threshold to the next
+abbrev pub step_accesses : ℕ
+step_accesses = 64
 
 -- a counter a page, the threshold, the host hits and the device accesses since its last step, and the device
 -- accesses and promotions in all
@@ -33,8 +36,8 @@ pub record IsPolicySound {T : Type 0} (policy : PolicyView T) : Type 0 where
   pub paid : sum policy.counters + policy.tuner.floor * policy.promotions ≤ policy.accesses
   pub positive : 1 ≤ policy.tuner.floor
   pub least : policy.tuner.floor ≤ policy.threshold
-  pub stepped : policy.recent < STEP_ACCESSES
-  pub few_counted : sum policy.counters ≤ STEP_ACCESSES + policy.recent
+  pub stepped : policy.recent < step_accesses
+  pub few_counted : sum policy.counters ≤ step_accesses + policy.recent
   pub few_hits : policy.hits ≤ 2 ^ 63
   pub few_accesses : policy.accesses ≤ 2 ^ 63
 
@@ -66,7 +69,7 @@ counted page policy =
 -- the threshold became the tuner's answer, the counters were halved, and a new step begins
 pub record IsStepped {T : Type 0} (answers : T → ℕ → ℕ → ℕ → ℕ → Type 0)
     (old new : PolicyView T) : Type 0 where
-  pub answer : answers old.tuner.tune old.hits STEP_ACCESSES old.threshold new.threshold
+  pub answer : answers old.tuner.tune old.hits step_accesses old.threshold new.threshold
   pub policy : new ≡ record old {
     counters = halved old.counters;
     threshold = new.threshold;
@@ -83,4 +86,4 @@ StepsWhere false answers old new = new ≡ old
 -- a step where enough accesses have come
 abbrev pub StepsWhenDue : {T : Type 0} → (T → ℕ → ℕ → ℕ → ℕ → Type 0) → PolicyView T
     → PolicyView T → Type 0
-StepsWhenDue answers old new = StepsWhere (old.recent == STEP_ACCESSES) answers old new
+StepsWhenDue answers old new = StepsWhere (old.recent == step_accesses) answers old new

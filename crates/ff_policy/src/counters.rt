@@ -1,6 +1,6 @@
 // The counters of accesses, one a page.
 ghost use Rattle.std.specs.Prelude.{ℕ, ◌≡◌, ◌≤◌, ◌<◌, ◌++◌, ◌∷◌, [], ◌==◌, IfOk, filter, if◌then◌else◌, length, nat_lt, replicate, slice_index, slice_set, sum, vec_capacity, vec_len};
-ghost use Rattle.ff_policy.specs.Counters.{halved, raised_count};
+ghost use Rattle.ff_policy.specs.Counters.{halved, most_counted, raised_count};
 
 use ff_base::{NoMemory, PageNo};
 use std::alloc::Global;
@@ -25,8 +25,8 @@ impl Model for Counters {
     ghost invariant = { IsKept };
 }
 
-/// The most pages that have a counter which isn't zero.
-pub const MOST_COUNTED: usize = 128;
+// The most pages that have a counter which isn't zero.
+const MOST_COUNTED: usize = 128;
 
 // A counter after one more access: it stays at its last value.
 fn raised(count: u8) -> u8
@@ -108,8 +108,9 @@ impl Counters {
     /// Counts an access to a page.
     pub fn raise(&mut self, page: PageNo)
         requires page { page.0 < length self.old }
-        requires room { sum self.old < MOST_COUNTED }
-        ensures { self.new ≡ slice_set self.old page.0 (raised_count (slice_index self.old page.0)) }
+        requires room { sum self.old < most_counted }
+        ensures { self.new
+            ≡ slice_set self.old page.0 (raised_count (slice_index self.old page.0)) }
     {
         let count = self.counts[page.0 as usize];
         add_counted(&mut self.counted, page, count);

@@ -1,7 +1,7 @@
 // The policy: which pages are hot, and what a promotion costs.
 ghost use Rattle.std.specs.Prelude.{◌≡◌, ◌+◌, ◌<◌, ◌↔◌, ◌^◌, IfOk, IfErr, IsTrue, length};
 
-use crate::counters::{Counters, MOST_COUNTED};
+use crate::counters::Counters;
 use crate::tuner::{Tune, Tuner};
 use ff_base::PageNo;
 use std::alloc::Global;
@@ -35,7 +35,7 @@ impl<T: Tune> Model for Policy<T> {
 pub const STEP_ACCESSES: u64 = 64;
 
 impl<T: Tune> Policy<T> {
-    ghost use Rattle.ff_policy.specs.Counters.{AreCounted};
+    ghost use Rattle.ff_policy.specs.Counters.{AreCounted, most_counted};
     ghost use Rattle.ff_policy.specs.Policy.{IsHot, IsPolicySound, StepsWhenDue, counted, counter_of, fresh_policy, promoted};
 
     /// No page was accessed, and the threshold is the tuner's start. The error is want of memory and hands the tuner
@@ -103,7 +103,7 @@ impl<T: Tune> Policy<T> {
     #[tactic(auto, using(crate::proofs::CountedPages::few_counted))]
     pub fn counted(&self) -> &[PageNo]
         ensures pages { AreCounted self.now.counters result.now }
-        ensures few { length result.now < MOST_COUNTED }
+        ensures few { length result.now < most_counted }
     {
         self.counters.counted()
     }

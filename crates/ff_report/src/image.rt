@@ -2,7 +2,6 @@
 ghost use Rattle.std.specs.Prelude.{◌≡◌, ◌<◌, Some, length};
 ghost use Rattle.std.specs.Option.{option_copied};
 ghost use Rattle.ff_base.specs.Page.{line_of};
-ghost use Rattle.ff_model.specs.Image.{held_page};
 ghost use Rattle.ff_report.specs.ImageText.{image_text, is_all_zero, line_text, mark_text, marks_text, page_text, pages_text};
 ghost use Rattle.ff_report.specs.Remounted.{Found};
 ghost use Rattle.ff_report.specs.RemountedFields.{remounted_view};

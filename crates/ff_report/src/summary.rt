@@ -1,5 +1,5 @@
 // Writes the summary of a session whose trace was generated.
-ghost use Rattle.std.specs.Prelude.{◌≡◌, ◌∷◌, ◌++◌, [], length};
+ghost use Rattle.std.specs.Prelude.{◌≡◌, ◌∷◌, ◌++◌, []};
 ghost use Rattle.ff_report.specs.SessionPartsFields.{view_of};
 ghost use Rattle.ff_report.specs.Text.{calls_line, end_line, lines_text, load_line, number_lines, summary_text};
 ghost use Rattle.ff_report.specs.Wrote.{Wrote};

@@ -1,5 +1,5 @@
 // The passes over the values of a set: the oldest way, and raising the allowed ones.
-ghost use Rattle.std.specs.Prelude.{◌↔◌, IsNone, ◌≡◌, ◌<◌, ◌≤◌, ◌+◌, ◌∷◌, [], length, ℕ, slice_index, IfSome, IfNone, IsTrue};
+ghost use Rattle.std.specs.Prelude.{◌↔◌, IsNone, ◌≡◌, ◌<◌, ◌≤◌, ◌+◌, length, IfSome, IfNone};
 ghost use Rattle.ff_rrip.specs.Oldest.{IsOldestBelow};
 ghost use Rattle.ff_rrip.specs.Ways.{IsVictimWay, IsWaysSound, NoneAllowed, distant_value, is_allowed, raised, raised_value};
 

@@ -24,7 +24,8 @@ use Rattle.ff_map.specs.declared.places.Mapping.{Mapping}
 use Rattle.ff_scan.proofs.Covering.{place_below, place_from}
 use Rattle.ff_scan.proofs.Newest.{newest_most, newest_there, same_page, same_spare, sealed_within}
 use Rattle.ff_scan.specs.Covered.{IsCoveredBlock}
-use Rattle.ff_scan.specs.Found.{IsFoundBlock, IsFoundPage, IsNewestMapping, IsNextVersion, IsOutside, IsScan, is_in, mapped_in}
+use Rattle.ff_scan.specs.Found.{IsFoundBlock, IsFoundPage, IsNewestMapping, IsNextVersion, IsOutside, IsScan}
+use Rattle.ff_map.specs.MappedPages.{is_in, mapped_in}
 use Rattle.ff_scan.specs.Mapped.{AreTopsMapped, IsTop}
 use Rattle.ff_scan.specs.Placed.{AreBlocksPlaced}
 use Rattle.ff_scan.specs.Probes.{AreProbes, probe_at}

@@ -1,5 +1,5 @@
 -- What a mount finds by the probes of all places: the spare block, the block table, the page map.
-use Rattle.std.specs.Prelude.{ℕ, ◌+◌, ◌-◌, ◌*◌, ◌/◌, ◌<◌, ◌≤◌, ◌≡◌, ◌≢◌, ◌==◌, if◌then◌else◌, Bool, true, false, List, length, count_by, Option, None, Some}
+use Rattle.std.specs.Prelude.{ℕ, ◌+◌, ◌-◌, ◌*◌, ◌/◌, ◌<◌, ◌≤◌, ◌≡◌, ◌≢◌, ◌==◌, if◌then◌else◌, Bool, true, false, List, length, Option, None, Some}
 use Rattle.ff_base.specs.declared.geometry.Geometry.{Geometry}
 use Rattle.ff_base.specs.declared.numbers.PageNo.{PageNo}
 use Rattle.ff_flash.specs.declared.flash.Probe.{Probe}
@@ -11,6 +11,7 @@ use Rattle.ff_space.specs.Choices.{IsLeast}
 use Rattle.ff_space.specs.declared.block.BlockEntry.{BlockEntry}
 use Rattle.ff_space.specs.declared.block.BlockState.{BlockState}
 use Rattle.ff_space.specs.declared.block.BlockState.TheVariants.{Erased as ErasedBlock, Waiting}
+use Rattle.ff_map.specs.MappedPages.{mapped_in}
 use Rattle.ff_map.specs.PageMap.{MapView, mapping_of}
 use Rattle.ff_map.specs.declared.places.Mapping.{Mapping}
 use Rattle.ff_scan.specs.Covered.{IsCoveredBlock}
@@ -32,15 +33,6 @@ pub record IsFoundBlock (per_block : ℕ) (probes : List Probe) (spare block : �
     : Type 0 where
   pub next : IsUsed per_block probes block per_block entry.next
   pub state : entry.state ≡ found_state per_block (spare == block) entry.next
-
--- a mapping lies in the block
-abbrev pub is_in : ℕ → ℕ → Option Mapping → Bool
-is_in per_block block None = false
-is_in per_block block (Some m) = m.at.0 / per_block == block
-
--- how many pages are mapped in the block
-abbrev pub mapped_in : ℕ → MapView → ℕ → ℕ
-mapped_in per_block places block = count_by (λ m. is_in per_block block m) places.pages
 
 -- a sealed page outside the spare block
 pub record IsOutside (per_block : ℕ) (probes : List Probe) (spare at : ℕ) (found : Spare)

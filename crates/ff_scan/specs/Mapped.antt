@@ -7,7 +7,8 @@ use Rattle.ff_flash.specs.declared.spare.Spare.{Spare}
 use Rattle.ff_space.specs.BlockTable.{TableView, block_at}
 use Rattle.ff_map.specs.PageMap.{MapView, mapping_of}
 use Rattle.ff_map.specs.declared.places.Mapping.{Mapping}
-use Rattle.ff_scan.specs.Found.{IsFoundBlock, IsNewestMapping, IsOutside, mapped_in}
+use Rattle.ff_scan.specs.Found.{IsFoundBlock, IsNewestMapping, IsOutside}
+use Rattle.ff_map.specs.MappedPages.{mapped_in}
 use Rattle.ff_scan.specs.Tops.{newest_outside}
 
 -- the place holds the newest version of a page outside the spare block

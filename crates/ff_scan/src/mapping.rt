@@ -1,11 +1,8 @@
 // The map of the newest pages outside the spare block.
-ghost use Rattle.std.specs.Prelude.{ℕ, ◌≡◌, ◌≢◌, ◌+◌, ◌*◌, ◌/◌, ◌<◌, ◌↔◌, length, None, IfNone, IfSome, IsTrue};
+ghost use Rattle.std.specs.Prelude.{◌≡◌, ◌≢◌, ◌+◌, ◌*◌, ◌/◌, ◌<◌, ◌↔◌, length, None, IfNone, IfSome, IsTrue};
 ghost use Rattle.ff_base.specs.Geometry.{IsWithinLimits};
 ghost use Rattle.ff_flash.specs.declared.spare.Spare.{Spare};
-ghost use Rattle.ff_space.specs.BlockTable.{block_at, changed_at};
-ghost use Rattle.ff_space.specs.Blocks.{mapped_more};
-ghost use Rattle.ff_space.specs.declared.block.BlockState.TheVariants.{Waiting};
-ghost use Rattle.ff_map.specs.PageMap.{IsFreeBut, mapping_of, with_mapping};
+ghost use Rattle.ff_map.specs.PageMap.{mapping_of};
 ghost use Rattle.ff_scan.specs.Mapped.{AreTopsMapped, IsTop};
 ghost use Rattle.ff_scan.specs.Probes.{AreProbes, probe_at};
 ghost use Rattle.ff_scan.specs.Tops.{AreTops};

@@ -1,6 +1,7 @@
 // Probes of all places.
 ghost use Rattle.std.specs.Prelude.{◌≡◌, ◌+◌, ◌<◌, ◌≤◌, ◌^◌, ◌++◌, [], ◌∷◌, true, false, length, IfOk, IfSome, vec_len, vec_capacity};
 ghost use Rattle.ff_flash.specs.Cells.{cell_at, cell_probe};
+ghost use Rattle.ff_flash.specs.FlashState.{HasOperationsLeft};
 ghost use Rattle.ff_flash.specs.Injected.{stop_of};
 ghost use Rattle.ff_scan.specs.Probes.{probes_of};
 ghost use Rattle.ff_scan.specs.Probing.{IsProbed, first_stop};
@@ -39,7 +40,7 @@ fn probe_one<F: Flash>(flash: &mut F, place: u32, probes: &mut Vec<Probe>) -> Re
     requires on { (F.state flash.old).on ≡ true }
     requires uncut { (F.state flash.old).cut ≡ false }
     requires place { place < length (F.state flash.old).cells }
-    requires life { (F.state flash.old).operations < 2 ^ 63 }
+    requires life { HasOperationsLeft (F.state flash.old) }
     requires room { vec_len probes.old < vec_capacity probes.old }
     ensures probes { IfOk result (λ _. probes.new.items
         ≡ probes.old.items ++ cell_probe (cell_at (F.state flash.old).cells place) ∷ []) }

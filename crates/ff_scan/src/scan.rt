@@ -1,5 +1,5 @@
 // A scan of a flash.
-ghost use Rattle.std.specs.Prelude.{◌≡◌, ◌*◌, ◌+◌, ◌≤◌, ◌^◌, [], true, false, length, replicate, IfOk, IfSome};
+ghost use Rattle.std.specs.Prelude.{◌≡◌, ◌*◌, ◌≤◌, ◌^◌, [], true, false, length, replicate, IfOk, IfSome};
 ghost use Rattle.ff_base.specs.Geometry.{IsWithinLimits};
 ghost use Rattle.ff_flash.specs.Injected.{stop_of};
 ghost use Rattle.ff_space.specs.BlockTable.{new_table};

@@ -108,7 +108,8 @@ fn next_session<T: Tune + Drop, E: Pick + Drop>(
     requires turns { turns_asked rows.now ≤ 4 * most_turns }
     requires geometry { geometry.now ≡ running.core.geometry }
     requires may_run { MayRun (setup_in running.core) (start_of running.core) rows.now running }
-    ensures { IfOk result (IsNextStep (setup_in running.core) (start_of running.core) rows.now running.at) }
+    ensures { IfOk result (IsNextStep (setup_in running.core) (start_of running.core) rows.now
+        running.at) }
 {
     let Open { core, at } = running;
     let Ran { lost, stop } = run_session(core, rows, at);

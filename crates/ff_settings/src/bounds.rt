@@ -4,7 +4,7 @@ ghost use Rattle.std.specs.Prelude.{◌≡◌, not, find};
 ghost use Rattle.std.specs.List.{list_all};
 ghost use Rattle.ff_flash.specs.Plans.{cut_numbers, is_listed};
 ghost use Rattle.ff_settings.specs.Bounds.{are_cuts_beside, are_fails, event_fits, first_beyond, fits_in_cut, is_within, rises_from};
-ghost use Rattle.ff_settings.specs.Given.{as_cut, as_cuts, given_view};
+ghost use Rattle.ff_settings.specs.Given.{as_cuts, given_view};
 ghost use Rattle.ff_settings.specs.Names.{later_names};
 
 use crate::cuts::WideCut;

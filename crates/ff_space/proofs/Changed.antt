@@ -31,7 +31,7 @@ use Rattle.ff_space.specs.BlockTable.{
   after_collection,
   block_at,
   changed_at,
-  entry_at,
+  block_in,
 }
 use Rattle.ff_space.specs.Blocks.{IsBlockSound, emptied, erased_block, filled, waiting}
 use Rattle.ff_space.specs.declared.block.BlockEntry.{BlockEntry}
@@ -99,9 +99,9 @@ count_by-changed_at p table block change within =
 
 -- a block that passes a test is counted
 pub count_by-some : (p : BlockEntry → Bool) (blocks : List BlockEntry) (block : ℕ)
-    → block < length blocks → p (entry_at blocks block) ≡ true → 0 < count_by p blocks
+    → block < length blocks → p (block_in blocks block) ≡ true → 0 < count_by p blocks
 count_by-some p blocks block within passes =
-    let at_least : cond (p (entry_at blocks block)) 1 0 ≤ count_by p blocks =
+    let at_least : cond (p (block_in blocks block)) 1 0 ≤ count_by p blocks =
     get_or-le-sum_by (λ (x : BlockEntry). cond (p x) 1 0) blocks block (waiting erased_block) within in
     let one : 1 ≤ count_by p blocks = rw passes at at_least in
     omega arith

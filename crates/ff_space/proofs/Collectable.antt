@@ -4,7 +4,7 @@ use Rattle.std.specs.Prelude.{count_by}
 use Rattle.std.proofs.lemmas.Bool.{cases_Bool, cases_lt, and_parts, lt-ltb, ltb-true}
 use Rattle.ff_space.proofs.Changed.{count_by-some}
 use Rattle.ff_space.specs.Blocks.{is_collectable, is_full}
-use Rattle.ff_space.specs.BlockTable.{IsTableSound, TableView, block_at, collectable_count, entry_at}
+use Rattle.ff_space.specs.BlockTable.{IsTableSound, TableView, block_at, collectable_count, block_in}
 use Rattle.ff_space.specs.Choices.{IsAllMapped}
 use Rattle.ff_space.specs.declared.block.BlockEntry.{BlockEntry}
 use Rattle.ff_space.specs.declared.block.BlockState.{BlockState}
@@ -14,7 +14,7 @@ use Rattle.ff_space.specs.declared.block.BlockState.TheVariants.{Erased, Open, F
 record Counted (p : BlockEntry → Bool) (blocks : List BlockEntry) : Type 0 where
   pub block : ℕ
   pub within : block < length blocks
-  pub passes : p (entry_at blocks block) ≡ true
+  pub passes : p (block_in blocks block) ≡ true
 
 counted : (p : BlockEntry → Bool) (blocks : List BlockEntry) → 0 < count_by p blocks → Counted p blocks
 counted p [] some = absurd (omega arith)

@@ -26,12 +26,12 @@ pub record TableView : Type 0 where
   pub blocks : List BlockEntry
 
 -- the block with this number; there is none past the end, which reads as one that waits
-abbrev pub entry_at : List BlockEntry → ℕ → BlockEntry
-entry_at blocks block = slice_index_or blocks block (waiting erased_block)
+abbrev pub block_in : List BlockEntry → ℕ → BlockEntry
+block_in blocks block = slice_index_or blocks block (waiting erased_block)
 
 -- a block of the table
 abbrev pub block_at : TableView → ℕ → BlockEntry
-block_at table block = entry_at table.blocks block
+block_at table block = block_in table.blocks block
 
 -- the block is one of the table's
 abbrev pub IsInRange : TableView → ℕ → Type 0
@@ -58,7 +58,7 @@ new_table geometry =
 -- there is such a block, and it is in this state
 pub record IsInState (blocks : List BlockEntry) (wanted : BlockState) (block : ℕ) : Type 0 where
   pub in_range : block < length blocks
-  pub state : (entry_at blocks block).state ≡ wanted
+  pub state : (block_in blocks block).state ≡ wanted
 
 -- a collection from the victim into the destination may end: the destination has as many programmed pages as it will
 -- have mapped ones

@@ -1,6 +1,6 @@
 -- Which block is chosen: the least one with a property, looked at over all blocks.
 use Rattle.std.specs.Prelude.{ℕ, ◌+◌, ◌*◌, ◌/◌, ◌<◌, ◌≤◌, ◌≡◌, List}
-use Rattle.ff_space.specs.BlockTable.{IsInState, TableView, block_at, entry_at, erased_count}
+use Rattle.ff_space.specs.BlockTable.{IsInState, TableView, block_at, block_in, erased_count}
 use Rattle.ff_space.specs.declared.block.BlockEntry.{BlockEntry}
 use Rattle.ff_space.specs.declared.block.BlockState.TheVariants.{Erased, Open, Full}
 use Rattle.ff_space.specs.declared.table.Place.{Place}
@@ -9,7 +9,7 @@ use Rattle.ff_space.specs.declared.table.Place.TheVariants.{Free, TakeErased, No
 -- there is such a block, it is full, and not all of its pages are mapped
 pub record IsCollectable (per_block : ℕ) (blocks : List BlockEntry) (block : ℕ) : Type 0 where
   pub full : IsInState blocks Full block
-  pub stale : (entry_at blocks block).mapped < per_block
+  pub stale : (block_in blocks block).mapped < per_block
 
 -- the block has the property, and every block that has it is not before it
 pub record IsLeast (P : ℕ → Type 0) (block : ℕ) : Type 0 where
@@ -24,9 +24,9 @@ NoBlock P = (block : ℕ) → P block → ⊥
 pub record IsVictimBlock (per_block : ℕ) (blocks : List BlockEntry) (block : ℕ) : Type 0 where
   pub has : IsCollectable per_block blocks block
   pub fewest : (other : ℕ) → IsCollectable per_block blocks other
-      → (entry_at blocks block).mapped ≤ (entry_at blocks other).mapped
+      → (block_in blocks block).mapped ≤ (block_in blocks other).mapped
   pub first : (other : ℕ) → IsCollectable per_block blocks other
-      → (entry_at blocks other).mapped ≡ (entry_at blocks block).mapped → block ≤ other
+      → (block_in blocks other).mapped ≡ (block_in blocks block).mapped → block ≤ other
 
 -- every full block has all its pages mapped
 abbrev pub IsAllMapped : TableView → Type 0

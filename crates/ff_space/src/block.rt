@@ -1,5 +1,5 @@
 // One block of the table: its state, its write place and its mapped pages, and what a call makes of them.
-ghost use Rattle.std.specs.Prelude.{ℕ, ◌≡◌, ◌≢◌, ◌+◌, ◌<◌, ◌≤◌, ◌^◌, if◌then◌else◌};
+ghost use Rattle.std.specs.Prelude.{ℕ, ◌≡◌, ◌≢◌, ◌+◌, ◌<◌, ◌≤◌, if◌then◌else◌};
 ghost use Rattle.ff_space.specs.Blocks.{CanAdvance, IsBlockSound, advanced, after_hold, block_placed, emptied, filled, is_collectable, is_erased, mapped_less, mapped_more, raised_state, state_by_next, taken_block, erased_block, waiting};
 ghost use Rattle.ff_space.specs.declared.block.BlockState.TheVariants.{Erased, Held, Waiting};
 

@@ -1,5 +1,5 @@
 // The passes over all blocks: the first block in a state, and the full one with the fewest mapped pages.
-ghost use Rattle.std.specs.Prelude.{◌≡◌, ◌+◌, ◌<◌, ◌≤◌, length, MatchOption};
+ghost use Rattle.std.specs.Prelude.{◌+◌, ◌<◌, ◌≤◌, length, MatchOption};
 ghost use Rattle.ff_base.specs.Geometry.{greatest_of};
 ghost use Rattle.ff_base.specs.declared.limits.LimitName.TheVariants.{Blocks};
 ghost use Rattle.ff_space.specs.BlockTable.{IsInState};

@@ -1,5 +1,5 @@
 // The block table: the blocks by number, with the count of the erased ones beside them.
-ghost use Rattle.std.specs.Prelude.{◌≡◌, ◌≢◌, ◌<◌, ◌≤◌, IfOk, MatchOption, replicate, if◌then◌else◌, IsTrue, ◌↔◌};
+ghost use Rattle.std.specs.Prelude.{◌≡◌, ◌≢◌, ◌<◌, ◌≤◌, IfOk, MatchOption, if◌then◌else◌, IsTrue, ◌↔◌};
 ghost use Rattle.ff_base.specs.Geometry.{IsWithinLimits};
 ghost use Rattle.ff_space.specs.Blocks.{CanAdvance, IsBlockSound, advanced, after_hold, block_placed, erased_block, mapped_less, mapped_more, taken_block, waiting};
 ghost use Rattle.ff_space.specs.declared.block.BlockState.TheVariants.{Erased, Held, Open, Waiting};

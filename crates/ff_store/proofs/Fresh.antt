@@ -18,7 +18,7 @@ use Rattle.ff_space.specs.declared.block.BlockState.TheVariants.{Erased, Held, W
 use Rattle.ff_map.specs.PageMap.{empty_map, mapping_of}
 use Rattle.ff_map.specs.declared.places.Mapping.{Mapping}
 use Rattle.ff_gc.proofs.Counting.{count_zero}
-use Rattle.ff_gc.specs.Running.{is_in}
+use Rattle.ff_map.specs.MappedPages.{is_in}
 use Rattle.ff_store.specs.PageStore.{IsStoreSound, new_store}
 
 same_each : {X : Type 0} (n i : ℕ) (x : X) → get_or (replicate n x) i x ≡ x

@@ -14,7 +14,8 @@ use Rattle.ff_space.specs.declared.block.BlockState.TheVariants.{Erased, Full, H
 use Rattle.ff_map.specs.PageMap.{MapView}
 use Rattle.ff_map.specs.declared.places.Mapping.{Mapping}
 use Rattle.ff_gc.proofs.Counting.{count_cons, count_set, count_some}
-use Rattle.ff_gc.specs.Running.{IsCollectorIdle, is_in, mapped_in}
+use Rattle.ff_gc.specs.Running.{IsCollectorIdle}
+use Rattle.ff_map.specs.MappedPages.{is_in, mapped_in}
 
 -- the sum of the first values
 abbrev sum_to : (ℕ → ℕ) → ℕ → ℕ

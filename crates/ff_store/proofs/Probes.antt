@@ -1,10 +1,10 @@
 -- What the probes of all places tell of the cells.
-use Rattle.std.proofs.Common.{◌≡◌, ◌<◌, ◌*◌, ◌^◌, ℕ, List, length, refl, sym, ap, ◌∙◌, arith}
+use Rattle.std.proofs.Common.{◌≡◌, ◌*◌, ℕ, List, length, refl, sym, ap, ◌∙◌, arith}
 use Rattle.std.proofs.Math.ListN.{get_or-map}
 use Rattle.std.proofs.lemmas.List.{length-map}
 use Rattle.ff_base.specs.declared.geometry.Geometry.{Geometry}
 use Rattle.ff_flash.specs.Cells.{Cell, cell_at, cell_bytes, cell_probe, closed, erased, sealed, spoiled}
-use Rattle.ff_flash.specs.FlashState.{FlashState}
+use Rattle.ff_flash.specs.FlashState.{FlashState, HasOperationsLeft}
 use Rattle.ff_flash.specs.declared.flash.Probe.TheVariants.{Closed, Erased, Sealed, Spoiled}
 use Rattle.ff_flash.specs.declared.spare.Spare.{Spare}
 use Rattle.ff_space.specs.Choices.{NoBlock}
@@ -44,7 +44,7 @@ cell_erased cells a is = erased_by (cell_at cells a) (sym (probe_is cells a) ∙
 
 -- the probes of what a power loss left
 pub are_probes : (g : Geometry) (flash : FlashState) → length flash.cells ≡ g.blocks * g.per_block
-    → flash.operations < 2 ^ 63 → IsRemountable g flash → AreProbes g (probes_of flash.cells)
+    → HasOperationsLeft flash → IsRemountable g flash → AreProbes g (probes_of flash.cells)
 are_probes g flash size life sound = record {
   size = length-map flash.cells cell_probe ∙ size;
   page = λ a spare is. sound.sealed_cells.page a _ spare (cell_sealed flash.cells a spare is);

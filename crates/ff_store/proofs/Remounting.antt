@@ -27,7 +27,8 @@ use Rattle.ff_gc.proofs.Counting.{count_fewer, count_zero}
 use Rattle.ff_gc.proofs.Numbers.{block_within, place_is}
 use Rattle.ff_gc.specs.Cells.{AreMapped, AreSealed, HasNewer}
 use Rattle.ff_gc.specs.Collector.{CollectorView, mounted_phase}
-use Rattle.ff_gc.specs.Running.{IsAt, IsTabled, is_in}
+use Rattle.ff_gc.specs.Running.{IsAt, IsTabled}
+use Rattle.ff_map.specs.MappedPages.{is_in}
 use Rattle.ff_store.proofs.Bests.{IsBest, best_is, sealed_holds}
 use Rattle.ff_store.proofs.Mounting.{best_bytes, covered, few_sealed}
 use Rattle.ff_store.proofs.Probes.{cell_erased, cell_sealed, probe_sealed}

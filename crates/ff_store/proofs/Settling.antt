@@ -21,7 +21,7 @@ use Rattle.ff_gc.proofs.Numbers.{block_within}
 use Rattle.ff_gc.proofs.PageCopies.{same_page}
 use Rattle.ff_gc.proofs.Retaining.{cell_at-set, cell_at-set_other}
 use Rattle.ff_gc.specs.Cells.{AreMapped, AreSealed}
-use Rattle.ff_gc.specs.Running.{is_in, mapped_in}
+use Rattle.ff_map.specs.MappedPages.{is_in, mapped_in}
 use Rattle.ff_gc.specs.World.{IsCollectorReady, World}
 use Rattle.ff_store.proofs.Basics.{waiting_some}
 use Rattle.ff_store.specs.Calls.{dropped, new_mapping, placed_table}

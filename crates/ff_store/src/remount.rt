@@ -1,7 +1,7 @@
 // A store made of what a power loss left in a flash.
 ghost use Rattle.std.specs.Prelude.{◌≡◌, ◌*◌, ◌<◌, ◌≤◌, ◌^◌, length, IfErr, IfOk, IfSome, MatchResult, None};
 ghost use Rattle.ff_base.specs.Geometry.{IsWithinLimits};
-ghost use Rattle.ff_flash.specs.FlashState.{powered_up};
+ghost use Rattle.ff_flash.specs.FlashState.{HasOperationsLeft, powered_up};
 ghost use Rattle.ff_scan.specs.Probes.{probes_of};
 ghost use Rattle.ff_scan.specs.Probing.{first_stop};
 ghost use Rattle.ff_scan.specs.Scan.{new_scan};
@@ -141,7 +141,7 @@ impl<F: Flash> PageStore<F> {
         requires size { length (F.state flash).cells
             ≡ geometry.now.blocks * geometry.now.per_block }
         requires sound { IsRemountable geometry.now (F.state flash) }
-        requires life { (F.state flash).operations < 2 ^ 63 }
+        requires life { HasOperationsLeft (F.state flash) }
         requires sizes { scan.geometry ≡ geometry.now }
         requires probes { scan.probes ≡ probes_of (F.state flash).cells }
         requires collector { collector ≡ new_collector geometry.now }

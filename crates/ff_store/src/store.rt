@@ -4,7 +4,7 @@ ghost use Rattle.ff_base.specs.Geometry.{IsWithinLimits};
 ghost use Rattle.ff_flash.specs.Cells.{IsSealed, cell_at, erased};
 ghost use Rattle.ff_flash.specs.FlashState.{HasOperationsLeft, powered_off};
 ghost use Rattle.ff_flash.specs.Injected.{stop_of};
-ghost use Rattle.ff_flash.specs.declared.flash.FlashStop.TheVariants.{Failed, Off};
+ghost use Rattle.ff_flash.specs.declared.flash.FlashStop.TheVariants.{Off};
 ghost use Rattle.ff_space.specs.BlockTable.{IsTableSound, new_table};
 ghost use Rattle.ff_map.specs.PageMap.{IsMapSound, empty_map, place_of};
 ghost use Rattle.ff_gc.specs.Collector.{new_collector};

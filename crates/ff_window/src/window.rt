@@ -1,5 +1,5 @@
 // A queue of posts with room for a number of them.
-ghost use Rattle.std.specs.Prelude.{◌≡◌, ◌<◌, ◌≤◌, ◌==◌, ◌↔◌, ◌++◌, ◌∷◌, [], IfOk, IfSome, IsSome, drop, length};
+ghost use Rattle.std.specs.Prelude.{◌≡◌, ◌<◌, ◌==◌, ◌↔◌, ◌++◌, ◌∷◌, [], IfOk, IsSome, drop, length};
 ghost use Rattle.std.specs.Option.{option_or, option_to_list};
 ghost use Rattle.ff_lines.specs.Posts.{waits_in, IsPost};
 ghost use Rattle.ff_window.specs.Window.{first_position, IsWindowSound};

@@ -1,3 +1,4 @@
+// Words and what they ask for.
 use super::*;
 use std::alloc::{AllocError, Global};
 use std::test::Fail;

@@ -1,5 +1,5 @@
 // The rules by which the program's policy sets its threshold, and its evictor scores frames.
-ghost use Rattle.std.specs.Prelude.{ℕ, ◌≡◌, ◌≤◌};
+ghost use Rattle.std.specs.Prelude.{◌≡◌, ◌≤◌};
 ghost use Rattle.flatflash.specs.Rules.{dirty_score, tuned};
 
 use ff_evict::{Pick, Picker};

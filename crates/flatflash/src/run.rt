@@ -1,5 +1,5 @@
 // A run: the sessions that answer the rows of an input or of a number.
-ghost use Rattle.std.specs.Prelude.{◌≡◌, ◌≤◌, vec_len, IfOk, IfErr};
+ghost use Rattle.std.specs.Prelude.{◌≤◌, vec_len, IfOk, IfErr};
 ghost use Rattle.ff_gen.specs.Generated.{generated};
 ghost use Rattle.ff_input.specs.Input.{source_change};
 ghost use Rattle.ff_sessions.specs.Sessions.{AreSessionsOf};

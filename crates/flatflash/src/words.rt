@@ -1,5 +1,5 @@
 // The words that the program was started with.
-ghost use Rattle.std.specs.Prelude.{◌≡◌, map, IfOk, IfErr};
+ghost use Rattle.std.specs.Prelude.{map, IfOk, IfErr};
 ghost use Rattle.std.specs.String.{string_bytes};
 ghost use Rattle.flatflash.specs.Words.{AskForWork, IsWordsCause};
 

@@ -1,5 +1,5 @@
 // Hits, and the way that gives way.
-ghost use Rattle.std.specs.Prelude.{◌≡◌, ◌<◌, ◌≤◌, ◌↔◌, IfNone, IfSome, IsNone, length, slice_set};
+ghost use Rattle.std.specs.Prelude.{◌≡◌, ◌<◌, ◌↔◌, IfNone, IfSome, IsNone, length, slice_set};
 ghost use Rattle.ff_cache.specs.Cache.{values_at, values_of, with_value, IsChosen, SameSlots};
 ghost use Rattle.ff_rrip.specs.Ways.{near_value, IsVictimWay, NoneAllowed};
 

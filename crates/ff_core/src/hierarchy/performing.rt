@@ -91,7 +91,8 @@ impl<F: Flash, T: Tune, E: Pick> Hierarchy<F, T, E> {
     fn yield_to(&mut self, other: PageNo) -> Progress
         requires given { IsGiven self.old }
         requires pinned { (lines_under self.old).pinned other.0 ≡ true }
-        ensures { (slot : ℕ) × IsFound self.old.memory.slots other.0 slot × IsAdvanced slot self.old result self.new }
+        ensures { (slot : ℕ) × IsFound self.old.memory.slots other.0 slot
+            × IsAdvanced slot self.old result self.new }
     {
         match self.memory.plb().find(other) {
             Some(slot) => self.advance(slot),

@@ -1,5 +1,5 @@
 // The rules of the threshold and of the frames' scores that the tests go by.
-ghost use Rattle.std.specs.Prelude.{ℕ, ◌+◌, ◌≤◌, if◌then◌else◌};
+ghost use Rattle.std.specs.Prelude.{◌+◌, ◌≤◌, if◌then◌else◌};
 
 use ff_evict::Pick;
 use ff_policy::Tune;

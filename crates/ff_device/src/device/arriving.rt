@@ -1,5 +1,5 @@
 // What a power loss leaves of the posts.
-ghost use Rattle.std.specs.Prelude.{◌≡◌, ℕ, [], drop, take, length};
+ghost use Rattle.std.specs.Prelude.{◌≡◌, ℕ, [], drop, take};
 ghost use Rattle.ff_device.specs.Device.{own_of, parts_of};
 ghost use Rattle.ff_device.specs.Parts.{is_resident, line_below};
 ghost use Rattle.ff_lines.specs.PageSets.{SameSet};

@@ -1,7 +1,7 @@
 // The way that gives way.
 ghost use Rattle.std.specs.Prelude.{◌≡◌, ◌<◌, ◌==◌, ◌+◌, ℕ, None, Some, IfNone, true, false, length, MatchOption, if◌then◌else◌};
-ghost use Rattle.ff_cache.specs.Cache.{first_of, is_full_set, way_at};
-ghost use Rattle.ff_cache.specs.Slots.{is_empty, cache_slot_at};
+ghost use Rattle.ff_cache.specs.Cache.{is_full_set, way_at};
+ghost use Rattle.ff_cache.specs.Slots.{cache_slot_at};
 ghost use Rattle.ff_device.specs.Device.{parts_of};
 ghost use Rattle.ff_device.specs.Steps.{chosen_way, may_go, may_go_at};
 ghost use Rattle.ff_device.specs.WorkRows.{HasUnpinned, IsRaised};

@@ -1,6 +1,5 @@
 // A turn of the collector.
-ghost use Rattle.std.specs.Prelude.{◌≡◌, ◌↔◌, IsTrue, None, true, false};
-ghost use Rattle.std.specs.Option.{is_some};
+ghost use Rattle.std.specs.Prelude.{◌≡◌, ◌↔◌, IsTrue, None, true};
 ghost use Rattle.ff_flash.specs.FlashState.{HasOperationsLeft};
 ghost use Rattle.ff_lines.specs.PageSets.{SameSet};
 ghost use Rattle.ff_lines.specs.Works.{KeepsLines};

@@ -1,9 +1,9 @@
 // Reads of cached lines, posts, and the hits that both may be.
-ghost use Rattle.std.specs.Prelude.{◌≡◌, ◌≤◌, ◌<◌, ◌++◌, ◌∷◌, ◌==◌, [], true, length, if◌then◌else◌};
+ghost use Rattle.std.specs.Prelude.{◌≡◌, ◌<◌, ◌++◌, ◌∷◌, ◌==◌, [], true, length, if◌then◌else◌};
 ghost use Rattle.ff_device.specs.Device.{lines_in, own_of, parts_of};
 ghost use Rattle.ff_device.specs.Draining.{DrainsFirst, HitIf, SameFrames};
 ghost use Rattle.ff_device.specs.Parts.{is_resident, line_below};
-ghost use Rattle.ff_lines.specs.DeviceState.{HasRoom, IsDrained};
+ghost use Rattle.ff_lines.specs.DeviceState.{HasRoom};
 ghost use Rattle.ff_lines.specs.Posts.{IsPost};
 
 use super::slots::use_again;

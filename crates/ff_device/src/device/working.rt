@@ -7,7 +7,7 @@ ghost use Rattle.ff_space.specs.BlockTable.{IsTableSound};
 ghost use Rattle.ff_store.specs.PageStore.{IsStoreSound};
 ghost use Rattle.ff_device.specs.Device.{lines_in, parts_of};
 ghost use Rattle.ff_device.specs.Parts.{IsDeviceSound};
-ghost use Rattle.ff_device.specs.Steps.{chosen_way, may_go};
+ghost use Rattle.ff_device.specs.Steps.{may_go};
 ghost use Rattle.ff_device.specs.StoreState.{seen_of, IsStoreStateSound};
 ghost use Rattle.ff_device.specs.StoreSteps.{CallsOnce};
 ghost use Rattle.ff_device.specs.WorkRows.{FetchRow, FlushRow, IsWorkStep, NoWayRow, stop_of_work};

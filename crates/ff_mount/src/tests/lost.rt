@@ -1,5 +1,5 @@
 // What a power loss left of an empty device.
-ghost use Rattle.std.specs.Prelude.{◌≡◌, IfOk, IfSome, length};
+ghost use Rattle.std.specs.Prelude.{◌≡◌, IfSome, length};
 ghost use Rattle.ff_base.specs.Geometry.{IsWithinLimits};
 ghost use Rattle.ff_base.specs.declared.geometry.Geometry.{Geometry};
 ghost use Rattle.ff_flash.specs.Plans.{IsPlan, planned_of};

@@ -1,5 +1,5 @@
 use Rattle.std.proofs.Common.{◌≡◌, ℕ, subst, arith}
-use Rattle.ff_core.proofs.ResumeBorn.{IsBearing, bearing-begun, bearing-done, bearing-more}
+use Rattle.ff_core.proofs.ResumeBorn.{IsBearing, bearing-done}
 use Rattle.ff_core.proofs.resume.bear_held.Goals as goal
 
 pub returns : goal.returns

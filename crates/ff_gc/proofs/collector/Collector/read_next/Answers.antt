@@ -2,7 +2,7 @@ use Rattle.std.proofs.Common.{subst}
 use Rattle.ff_gc.proofs.PageCopies.{at_phase, next_sealed}
 use Rattle.ff_gc.proofs.Switching.{can_end, can_switch}
 use Rattle.ff_gc.specs.Collector.{CollectorView}
-use Rattle.ff_gc.specs.Originals.{IsNext}
+use Rattle.ff_gc.specs.Originals.{IsNextOriginal}
 use Rattle.ff_gc.specs.Steps.{reads}
 use Rattle.ff_gc.specs.World.{world_of}
 use Rattle.ff_gc.specs.declared.phase.Phase.TheVariants.{Reading}
@@ -32,6 +32,6 @@ commit-requires-clause-blocks g c =
 pub returns-in-Some : goal.returns-in-Some
 returns-in-Some g c =
     reads c.in-Some.original
-    (subst (λ (v : CollectorView). IsNext v.per_block c.args.map.now c.args.job c.in-Some.original) c.self.view_is
+    (subst (λ (v : CollectorView). IsNextOriginal v.per_block c.args.map.now c.args.job c.in-Some.original) c.self.view_is
     c.in-Some.ensures)
     c.read_page.ensures
