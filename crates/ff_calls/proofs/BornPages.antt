@@ -5,7 +5,7 @@ use Rattle.std.specs.List.{range_with_len}
 use Rattle.std.proofs.lemmas.List.Sums.{sum_by-cons}
 use Rattle.ff_lines.specs.DeviceState.{DeviceState}
 use Rattle.ff_memory.specs.Memory.{IsMemorySound, MemoryView}
-use Rattle.ff_memory.specs.Places.{page_of}
+use Rattle.ff_memory.specs.LineBytes.{page_of}
 use Rattle.ff_memory.specs.Stores.{is_store_refused}
 use Rattle.ff_model.specs.Flat.{born_count, is_born}
 use Rattle.ff_model.specs.Legal.{Opening, is_refused}
@@ -23,7 +23,7 @@ count-flags (flag ∷ later) set first same =
     let start : first + zero ≡ first = omega arith in
     let here : flag ≡ set first = same zero (omega arith) ∙ ap set start in
     let next : (k : ℕ) → k < length later → get_or later k false ≡ set (first + 1 + k) =
-    λ k within. let place : first + suc k ≡ first + 1 + k = omega arith in same (suc k) (omega arith) ∙ ap set place in
+    λ k within. let there : first + suc k ≡ first + 1 + k = omega arith in same (suc k) (omega arith) ∙ ap set there in
     sum_by-cons (λ b. cond {A = ℕ} b 1 0) flag later
     ∙ ap (λ (b : Bool). cond {A = ℕ} b 1 0 + count_by (λ x. x) later) here
     ∙ ap (λ (n : ℕ). cond {A = ℕ} (set first) 1 0 + n) (count-flags later set (first + 1) next)

@@ -10,7 +10,7 @@ use Rattle.ff_kept.specs.Posted.{device_byte}
 use Rattle.ff_lines.specs.DeviceState.{DeviceState}
 use Rattle.ff_lines.specs.LineMask.{has_line}
 use Rattle.ff_memory.specs.Memory.{IsMemorySound, MemoryView, entry_at, home_at}
-use Rattle.ff_memory.specs.Places.{frame_for, frame_in_flight, frame_of_page, line_from, line_in_page, page_of, serving_frame, store_frame_for, store_in_flight, storing_frame}
+use Rattle.ff_memory.specs.LineBytes.{frame_for, frame_in_flight, frame_of_page, line_from, line_in_page, page_of, serving_frame, store_frame_for, store_in_flight, storing_frame}
 use Rattle.ff_model.specs.Callers.{is_marked}
 use Rattle.ff_model.specs.Flat.{flat_byte_of}
 use Rattle.ff_model.specs.Legal.{Opening}

@@ -5,7 +5,7 @@ use Rattle.std.specs.Int.{bit_at}
 use Rattle.std.proofs.lemmas.Bool.{cases_eq, cases_lt, eq-eqb, ne_eqb}
 use Rattle.std.proofs.lemmas.List.{get_or-set_same, get_or-set_other}
 use Rattle.std.proofs.lemmas.Nat.Bits.{bit_at-lt, bit_at_and, bit_at_not, bit_at_or}
-use Rattle.ff_table.specs.Table.{PageTableView, marked_to, marks_of, with_marks}
+use Rattle.ff_table.specs.Table.{TableView, marked_to, marks_of, with_marks}
 
 max-bits : (a b : ℕ) → a < 2 → b < 2 → (max a b == 1) ≡ ((b == 1) || (a == 1))
 max-bits a b low few = elim (cases_lt a 1) [
@@ -44,7 +44,7 @@ line-cleared mask lines line fits low =
     ∙ min-bits (bit_at mask line) (bit_at lines line) (bit_at-lt mask line) (bit_at-lt lines line)
 
 -- lines of a page were marked
-pub marks-more : (table : PageTableView) (page lines q line : ℕ) → page < length table.marks
+pub marks-more : (table : TableView) (page lines q line : ℕ) → page < length table.marks
     → (bit_at (marks_of (with_marks page lines true table) q) line == 1)
     ≡ (((page == q) && (bit_at lines line == 1)) || (bit_at (marks_of table q) line == 1))
 marks-more table page lines q line within = elim (cases_eq q page) [
@@ -63,7 +63,7 @@ marks-more table page lines q line within = elim (cases_eq q page) [
 ]
 
 -- marks of a page's lines were cleared
-pub marks-fewer : (table : PageTableView) (page lines q line : ℕ) → page < length table.marks → lines < 2 ^ 64 → line < 64
+pub marks-fewer : (table : TableView) (page lines q line : ℕ) → page < length table.marks → lines < 2 ^ 64 → line < 64
     → (bit_at (marks_of (with_marks page lines false table) q) line == 1)
     ≡ (not ((page == q) && (bit_at lines line == 1)) && (bit_at (marks_of table q) line == 1))
 marks-fewer table page lines q line within fits low = elim (cases_eq q page) [

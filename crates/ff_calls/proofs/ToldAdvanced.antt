@@ -17,10 +17,10 @@ use Rattle.ff_lines.specs.declared.post.Post.{Post}
 use Rattle.ff_memory.specs.Advances.{Advances, AdvancesBy, FinishesOrLifts, IsFinished, IsLandedOnDevice, IsLifted, LandsBy, LiftsFrom, finished_by}
 use Rattle.ff_memory.specs.Located.{IsLocated}
 use Rattle.ff_memory.specs.Memory.{IsMemorySound, MemoryView, entry_at, home_at}
-use Rattle.ff_memory.specs.Places.{SamePlaces, place}
+use Rattle.ff_memory.specs.LineBytes.{SameLineBytes, line_bytes}
 use Rattle.ff_memory.specs.declared.access.What.{What}
 use Rattle.ff_memory.specs.declared.access.What.TheVariants.{Finished, Landed, Dropped, Lifted, Started, Worked, Drained, Sealed, Collected}
-use Rattle.ff_memory.proofs.FlightMoves.{place-before}
+use Rattle.ff_memory.proofs.FlightMoves.{line-before}
 use Rattle.ff_memory.proofs.Flights.{IsEntryOf, as-leaving, entry-is, flies, page-within}
 use Rattle.ff_model.specs.Callers.{is_marked}
 use Rattle.ff_model.specs.Flat.{flat_byte_of}
@@ -118,9 +118,9 @@ quiet-told : (opening : Opening) (entries : List Entry) (m : MemoryView) (d : De
 quiet-told opening entries m d m' d' told says is = rw is record { says = says; faults = omega arith; keeping = told.keeping }
 
 -- a line that a leaving page's frame serves
-leaving-place : (m : MemoryView) (d : DeviceState) (k : ℕ) (s : Slot) (line : ℕ) → IsEntryOf m d k s → s.way ≡ Leaving
-    → has_line s.bits line ≡ false → place m d s.page.0 line ≡ line_of (frame_at m.frames s.frame).bytes line
-leaving-place m d k s line e way clear = place-before m d k s line e ∙ rw (way, clear) refl
+leaving-line_bytes : (m : MemoryView) (d : DeviceState) (k : ℕ) (s : Slot) (line : ℕ) → IsEntryOf m d k s → s.way ≡ Leaving
+    → has_line s.bits line ≡ false → line_bytes m d s.page.0 line ≡ line_of (frame_at m.frames s.frame).bytes line
+leaving-line_bytes m d k s line e way clear = line-before m d k s line e ∙ rw (way, clear) refl
 
 -- a leaving page's line was posted: it isn't marked, and has the flat bytes
 landed-told : (opening : Opening) (entries : List Entry) (m : MemoryView) (d : DeviceState) (k : ℕ) (s : Slot) (flight : Flight)
@@ -137,7 +137,7 @@ landed-told opening entries m d k s flight m' d' told e way flying is =
     let low : line < 64 = flight_is.0 in
     let size : length frame.bytes ≡ 4096 = e.sound.frames_sound.sized s.frame in
     let count : length flight.bytes ≡ 64 = ap length flight_is.2 ∙ length-line_of frame.bytes line size low in
-    let here : flight.bytes ≡ place m d p line = flight_is.2 ∙ sym (leaving-place m d k s line e way flight_is.1) in
+    let here : flight.bytes ≡ line_bytes m d p line = flight_is.2 ∙ sym (leaving-line_bytes m d k s line e way flight_is.1) in
     let within = page-within m d k s e in
     let pages = told.pages in
     let same = is.device.residence.faults in
@@ -145,8 +145,8 @@ landed-told opening entries m d k s flight m' d' told e way flying is =
     → get_or flight.bytes (address % 64) 0 ≡ flat_byte_of opening.base entries address =
     λ address on_page on_line.
     ap (λ (bytes : List ℕ). get_or bytes (address % 64) 0) here
-    ∙ ap (λ (q : ℕ). get_or (place m d q line) (address % 64) 0) (sym on_page)
-    ∙ ap (λ (j : ℕ). get_or (place m d (address / 4096) j) (address % 64) 0) (sym on_line)
+    ∙ ap (λ (q : ℕ). get_or (line_bytes m d q line) (address % 64) 0) (sym on_page)
+    ∙ ap (λ (j : ℕ). get_or (line_bytes m d (address / 4096) j) (address % 64) 0) (sym on_line)
     ∙ told.flat address (omega arith) in
     record {
       says = says-table m m' (ap (λ (v : MemoryView). v.table) is.memory) (ap (λ (v : MemoryView). v.capacity) is.memory);
@@ -202,7 +202,7 @@ advances-told (Some s) what opening entries m d k m' d' told sound device there 
 -- a page in flight made its step
 pub told-advanced : (opening : Opening) (entries : List Entry) (slot : ℕ) (what : What) (m : MemoryView) (d : DeviceState)
     (m' : MemoryView) (d' : DeviceState) → IsTold opening entries m d → IsMemorySound m → IsDevice d
-    → Advances slot (slot_at m.slots slot) m d what m' d' → IsLocated m' d' → SamePlaces m d m' d' → IsTold opening entries m' d'
-told-advanced opening entries slot what m d m' d' told sound device is located places =
+    → Advances slot (slot_at m.slots slot) m d what m' d' → IsLocated m' d' → SameLineBytes m d m' d' → IsTold opening entries m' d'
+told-advanced opening entries slot what m d m' d' told sound device is located same_lines =
     let step = advances-told (slot_at m.slots slot) what opening entries m d slot m' d' told sound device refl is in
-    told-moved opening entries m d m' d' told step.says located places step.faults step.keeping
+    told-moved opening entries m d m' d' told step.says located same_lines step.faults step.keeping

@@ -6,7 +6,7 @@ use Rattle.ff_base.specs.Count.{last_event}
 use Rattle.ff_kept.proofs.KeepingAnswered.{keeping-undone}
 use Rattle.ff_lines.specs.DeviceState.{DeviceState, IsDevice}
 use Rattle.ff_memory.specs.Memory.{IsMemorySound, MemoryView}
-use Rattle.ff_memory.specs.Places.{byte_of}
+use Rattle.ff_memory.specs.LineBytes.{byte_of}
 use Rattle.ff_model.specs.Flat.{bears, flat_byte_of, is_born, is_done}
 use Rattle.ff_model.specs.Legal.{MayFollow, Opening, due_reply, faults_after, is_refused, is_served, may_fault, next_event, served_reply}
 use Rattle.ff_model.specs.Spans.{is_in_range}

@@ -10,7 +10,7 @@ use Rattle.ff_lines.specs.BlankLine.{line_or_blank}
 use Rattle.ff_lines.specs.DeviceState.{DeviceState}
 use Rattle.ff_memory.specs.Located.{IsLocated}
 use Rattle.ff_memory.specs.Memory.{MemoryView, entry_at, fresh_memory, home_at}
-use Rattle.ff_memory.specs.Places.{byte_of}
+use Rattle.ff_memory.specs.LineBytes.{byte_of}
 use Rattle.ff_memory.proofs.Worked.{located-fresh}
 use Rattle.ff_model.specs.Callers.{is_marked}
 use Rattle.ff_model.specs.Flat.{is_born}
@@ -26,7 +26,7 @@ repeated {A} n i a = elim (cases_lt i n) [
   | inr past ↦ get_or_past (replicate n a) i a (omega (arith, length-replicate n a))
 ]
 
--- a line of zeros has a zero at each place
+-- a line of zeros has a zero at each offset
 pub zero-blank_line : (i : ℕ) → get_or blank_line i 0 ≡ 0
 unfolding blank_line
 zero-blank_line i = repeated 64 i zero
@@ -44,7 +44,7 @@ zero-blank_page : (line i : ℕ) → get_or (line_of blank_page line) i 0 ≡ 0
 unfolding blank_page
 zero-blank_page line i = repeated-part 4096 (64 * line) (64 * line + 64 - 64 * line) i zero
 
--- each line of a page of zeros has a zero at each place
+-- each line of a page of zeros has a zero at each offset
 pub zero-line_or_blank : (line i : ℕ) → get_or (line_or_blank blank_page line) i 0 ≡ 0
 zero-line_or_blank line i = elim (cases_lt line 64) [
   | inl within ↦ rw (lt-ltb line 64 within) (zero-blank_page line i)

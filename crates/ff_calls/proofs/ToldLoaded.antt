@@ -6,7 +6,7 @@ use Rattle.ff_lines.specs.DeviceState.{DeviceState, IsDevice}
 use Rattle.ff_memory.specs.Loads.{IsLoad, IsLoadBy, span_of}
 use Rattle.ff_memory.specs.Located.{IsLocated}
 use Rattle.ff_memory.specs.Memory.{MemoryView}
-use Rattle.ff_memory.specs.Places.{SamePlaces, byte_of, line_in_page, page_of, serving_frame}
+use Rattle.ff_memory.specs.LineBytes.{SameLineBytes, byte_of, line_in_page, page_of, serving_frame}
 use Rattle.ff_memory.specs.declared.access.Access.TheVariants.{Served}
 use Rattle.ff_memory.specs.declared.access.Side.{Side}
 use Rattle.ff_model.specs.Flat.{flat_byte_of, is_done}
@@ -51,14 +51,14 @@ load-keeps None false opening entries page bytes reply side m d m' d' told devic
 -- a load was served by a frame or by the device
 pub told-loaded : (opening : Opening) (entries : List Entry) (entry : Entry) (at len : ℕ) (side : Side) (m : MemoryView)
     (d : DeviceState) (m' : MemoryView) (d' : DeviceState) → IsCalled opening entries m d entry → entry.op ≡ Load at len
-    → IsLoad at len m d (Served entry.reply side) m' d' → IsLocated m' d' → SamePlaces m d m' d'
+    → IsLoad at len m d (Served entry.reply side) m' d' → IsLocated m' d' → SameLineBytes m d m' d'
     → IsTold opening (entries ++ entry ∷ []) m' d'
-told-loaded opening entries entry at len side m d m' d' called op is located places =
+told-loaded opening entries entry at len side m d m' d' called op is located same_lines =
     let told = called.told in
     let within = within-op opening entries m d entry (Load at len) called op in
     let keeps = load-keeps (serving_frame m (page_of at) (line_in_page at)) (d.resident (page_of at)) opening entries (page_of at)
     (span_of m d at len) entry.reply side m d m' d' told called.device is in
-    let moved = told-moved opening entries m d m' d' told keeps.says located places (let same = keeps.faults in omega arith)
+    let moved = told-moved opening entries m d m' d' told keeps.says located same_lines (let same = keeps.faults in omega arith)
     keeps.keeping in
     let span : Bytes (span_of m d at len) ≡ served_reply (byte_of m d) (Load at len) =
     ap Bytes (span_of-bytes m d at len called.sound called.device (span_one_line opening.pages at len within)) in

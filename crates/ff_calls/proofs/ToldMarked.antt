@@ -13,7 +13,7 @@ use Rattle.ff_lines.specs.DeviceState.{DeviceState}
 use Rattle.ff_memory.specs.Located.{IsLocated}
 use Rattle.ff_memory.specs.Marking.{IsMarkBy}
 use Rattle.ff_memory.specs.Memory.{MemoryView, entry_at, home_at}
-use Rattle.ff_memory.specs.Places.{SamePlaces, byte_of, frame_of_page, is_home, line_in_page, page_of}
+use Rattle.ff_memory.specs.LineBytes.{SameLineBytes, byte_of, frame_of_page, is_home, line_in_page, page_of}
 use Rattle.ff_memory.specs.declared.access.Access.TheVariants.{Served}
 use Rattle.ff_memory.specs.declared.access.Side.{Side}
 use Rattle.ff_memory.proofs.Flat.{byte-same}
@@ -56,9 +56,9 @@ pub record MarksKeep (opening : Opening) (entries : List Entry) (entry : Entry) 
 told-marks : (opening : Opening) (entries : List Entry) (entry : Entry) (op : Op) (m : MemoryView) (d : DeviceState)
     (m' : MemoryView) (d' : DeviceState) → IsCalled opening entries m d entry → entry.op ≡ op → IsNoStore op
     → is_refused opening entries op ≡ false → Done ≡ served_reply (flat_byte_of opening.base entries) op
-    → MarksKeep opening entries entry op m d m' d' → IsLocated m' d' → SamePlaces m d m' d'
+    → MarksKeep opening entries entry op m d m' d' → IsLocated m' d' → SameLineBytes m d m' d'
     → IsTold opening (entries ++ entry ∷ []) m' d'
-told-marks opening entries entry op m d m' d' called is none allowed reply keeps located places =
+told-marks opening entries entry op m d m' d' called is none allowed reply keeps located same_lines =
     let told = called.told in
     let done = keeps.done in
     let after = faults_after-append opening entries entry in
@@ -72,7 +72,7 @@ told-marks opening entries entry op m d m' d' called is none allowed reply keeps
       capacity = keeps.capacity ∙ told.capacity;
       flat = flat-append opening.base entries entry opening.pages (byte_of m d) (byte_of m' d') told.flat
           (λ address within.
-          byte-same m d m' d' places address
+          byte-same m d m' d' same_lines address
           ∙ rw (done, is) (ap (λ (o : Option ℕ). unwrap_or o (byte_of m d address)) (sym (none.bytes address))));
       born = λ page within.
           keeps.born page ∙ told.born page within ∙ is_born-same opening entries entry page (rw (done, is) (none.born page));
@@ -89,9 +89,9 @@ told-marks opening entries entry op m d m' d' called is none allowed reply keeps
 -- a verify was served
 pub told-verified : (opening : Opening) (entries : List Entry) (entry : Entry) (side : Side) (m : MemoryView) (d : DeviceState)
     (m' : MemoryView) (d' : DeviceState) → IsCalled opening entries m d entry → entry.op ≡ Verify
-    → IsVerified m d (Served entry.reply side) m' d' → IsLocated m' d' → SamePlaces m d m' d'
+    → IsVerified m d (Served entry.reply side) m' d' → IsLocated m' d' → SameLineBytes m d m' d'
     → IsTold opening (entries ++ entry ∷ []) m' d'
-told-verified opening entries entry side m d m' d' called op is located places =
+told-verified opening entries entry side m d m' d' called op is located same_lines =
     let base = opening.base in
     let done : entry.reply ≡ Done = let a = is.access_is in cc in
     let drained = told-drained opening entries m d d' called.told called.device is.device in
@@ -111,7 +111,7 @@ told-verified opening entries entry side m d m' d' called op is located places =
       faults = is.device.residence.faults;
       keeping = keeping-acknowledged base entries entry d' (rw op refl) is.device.lines.posts reads drained.keeping;
     })
-    located places
+    located same_lines
 
 -- the page of a range of lines is one of the pages
 pub line_range-page : (pages page from count : ℕ) → is_line_range pages page from count ≡ true → page < pages
@@ -189,20 +189,20 @@ marking-keeps false opening entries entry page from count lines side m d m' d' c
 pub told-marked : (opening : Opening) (entries : List Entry) (entry : Entry) (page : PageNo) (from count : ℕ) (side : Side)
     (m : MemoryView) (d : DeviceState) (m' : MemoryView) (d' : DeviceState) → IsCalled opening entries m d entry
     → entry.op ≡ Mark page from count → IsMarking page.0 from count m d (Served entry.reply side) m' d' → IsLocated m' d'
-    → SamePlaces m d m' d' → IsTold opening (entries ++ entry ∷ []) m' d'
-told-marked opening entries entry page from count side m d m' d' called op is located places =
+    → SameLineBytes m d m' d' → IsTold opening (entries ++ entry ∷ []) m' d'
+told-marked opening entries entry page from count side m d m' d' called op is located same_lines =
     told-marks opening entries entry (Mark page from count) m d m' d' called op
     (record { bytes = λ address. refl; born = λ q. refl }) refl refl
     (marking-keeps (is_home m page.0) opening entries entry page from count is.mask.0 side m d m' d' called op
     (λ line low. is.mask_is line low) refl is.marks)
-    located places
+    located same_lines
 
 -- a release was served
 pub told-released : (opening : Opening) (entries : List Entry) (entry : Entry) (page : PageNo) (from count : ℕ) (side : Side)
     (m : MemoryView) (d : DeviceState) (m' : MemoryView) (d' : DeviceState) → IsCalled opening entries m d entry
     → entry.op ≡ Release page from count → IsReleasing page.0 from count m d (Served entry.reply side) m' d' → IsLocated m' d'
-    → SamePlaces m d m' d' → IsTold opening (entries ++ entry ∷ []) m' d'
-told-released opening entries entry page from count side m d m' d' called op is located places =
+    → SameLineBytes m d m' d' → IsTold opening (entries ++ entry ∷ []) m' d'
+told-released opening entries entry page from count side m d m' d' called op is located same_lines =
     let done : entry.reply ≡ Done = let a = is.access_is in cc in
     let within = line_range-page opening.pages page.0 from count (within-op opening entries m d entry (Release page from count) called op) in
     let size = called.told.pages in
@@ -222,4 +222,4 @@ told-released opening entries entry page from count side m d m' d' called op is 
       faults = ap (λ (s : DeviceState). s.faults) is.device;
       keeping = rw is.device (keeping-released opening.base entries entry page from count d op called.told.keeping);
     })
-    located places
+    located same_lines

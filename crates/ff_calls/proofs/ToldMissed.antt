@@ -6,7 +6,7 @@ use Rattle.ff_lines.specs.DeviceState.{DeviceState}
 use Rattle.ff_memory.specs.Loads.{IsLoadBy, IsMissed}
 use Rattle.ff_memory.specs.Marking.{IsMarkBy}
 use Rattle.ff_memory.specs.Memory.{IsMemorySound, MemoryView, numbered}
-use Rattle.ff_memory.specs.Places.{is_home, line_in_page, page_of, place_in_line, serving_frame, storing_frame}
+use Rattle.ff_memory.specs.LineBytes.{is_home, line_in_page, page_of, offset_in_line, serving_frame, storing_frame}
 use Rattle.ff_memory.specs.Stores.{IsStoreBy, is_store_refused}
 use Rattle.ff_memory.specs.declared.access.Access.TheVariants.{Miss}
 use Rattle.ff_memory.proofs.Spans.{page-in_range}
@@ -86,7 +86,7 @@ load-missed None false at len bytes page m d m' d' serving here is =
 store-missed : (refused : Bool) (to : Option ℕ) (resident : Bool) (at : ℕ) (bytes : List ℕ) (position : ℕ) (page : PageNo)
     (m : MemoryView) (d : DeviceState) (m' : MemoryView) (d' : DeviceState) → is_store_refused m (page_of at) ≡ refused
     → storing_frame m (page_of at) (line_in_page at) ≡ to → d.resident (page_of at) ≡ resident
-    → IsStoreBy refused to resident (page_of at) (line_in_page at) (place_in_line at) bytes position m d (Miss page) m' d'
+    → IsStoreBy refused to resident (page_of at) (line_in_page at) (offset_in_line at) bytes position m d (Miss page) m' d'
     → MissFinds (Store at bytes) page m d m' d'
 store-missed true to resident at bytes position page m d m' d' full goes here is = absurd (let a = is.access_is in cc)
 store-missed false (Some frame) resident at bytes position page m d m' d' full goes here is = absurd (let a = is.access_is in cc)

@@ -13,8 +13,8 @@ use Rattle.ff_lines.specs.declared.post.Post.{Post}
 use Rattle.ff_lines.proofs.DeviceLines.{line_at-drains}
 use Rattle.ff_memory.specs.Located.{IsLocated}
 use Rattle.ff_memory.specs.Memory.{MemoryView}
-use Rattle.ff_memory.specs.Places.{SamePlaces}
-use Rattle.ff_memory.proofs.Alike.{IsLike, like-drained, like-located, like-places, like-worked}
+use Rattle.ff_memory.specs.LineBytes.{SameLineBytes}
+use Rattle.ff_memory.proofs.Alike.{IsLike, like-drained, like-located, like-lines, like-worked}
 use Rattle.ff_memory.proofs.Flat.{byte-same}
 use Rattle.ff_memory.proofs.Sites.{alike-same}
 use Rattle.ff_model.specs.Legal.{Opening}
@@ -34,16 +34,16 @@ says-same m = record { pages = refl; capacity = refl; born = λ page. refl; mark
 
 -- memory and device changed, and no line did
 pub told-moved : (opening : Opening) (entries : List Entry) (m : MemoryView) (d : DeviceState) (m' : MemoryView) (d' : DeviceState)
-    → IsTold opening entries m d → SaysSame m m' → IsLocated m' d' → SamePlaces m d m' d' → d.faults ≤ d'.faults
+    → IsTold opening entries m d → SaysSame m m' → IsLocated m' d' → SameLineBytes m d m' d' → d.faults ≤ d'.faults
     → IsKeepingDevice opening.base entries d' → IsTold opening entries m' d'
-told-moved opening entries m d m' d' told says located places faults keeping =
+told-moved opening entries m d m' d' told says located same_lines faults keeping =
     let before = told.faults in
     record {
       legal = told.legal;
       faults = omega arith;
       pages = says.pages ∙ told.pages;
       capacity = says.capacity ∙ told.capacity;
-      flat = λ address within. byte-same m d m' d' places address ∙ told.flat address within;
+      flat = λ address within. byte-same m d m' d' same_lines address ∙ told.flat address within;
       born = λ page within. says.born page ∙ told.born page within;
       marks = λ page line low. rw (says.marks page) (told.marks page line low);
       located = located;
@@ -54,7 +54,7 @@ told-moved opening entries m d m' d' told says located places faults keeping =
 told-like : (opening : Opening) (entries : List Entry) (m : MemoryView) (d d' : DeviceState) → IsTold opening entries m d
     → IsLike m d m d' → d.faults ≤ d'.faults → IsKeepingDevice opening.base entries d' → IsTold opening entries m d'
 told-like opening entries m d d' told like faults keeping =
-    told-moved opening entries m d m d' told (says-same m) (like-located m d m d' told.located like) (like-places m d m d' like)
+    told-moved opening entries m d m d' told (says-same m) (like-located m d m d' told.located like) (like-lines m d m d' like)
     faults keeping
 
 -- a step of work

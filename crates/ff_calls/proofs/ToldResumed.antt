@@ -10,7 +10,7 @@ use Rattle.ff_kept.proofs.KeepingAnswered.{keeping-opened}
 use Rattle.ff_lines.specs.DeviceState.{DeviceState}
 use Rattle.ff_memory.specs.Located.{IsLocated}
 use Rattle.ff_memory.specs.Memory.{MemoryView, entry_at, fresh_memory, home_at}
-use Rattle.ff_memory.specs.Places.{Holds, frame_of_page}
+use Rattle.ff_memory.specs.LineBytes.{Holds, frame_of_page}
 use Rattle.ff_memory.proofs.Worked.{located-fresh}
 use Rattle.ff_model.specs.Image.{byte_at, held_page}
 use Rattle.ff_model.specs.Legal.{Opening}

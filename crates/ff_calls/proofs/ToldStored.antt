@@ -12,7 +12,7 @@ use Rattle.ff_lines.specs.DeviceState.{DeviceState, IsDevice}
 use Rattle.ff_lines.specs.declared.post.Post.{Post}
 use Rattle.ff_memory.specs.Located.{IsLocated}
 use Rattle.ff_memory.specs.Memory.{MemoryView, entry_at, home_at, numbered}
-use Rattle.ff_memory.specs.Places.{line_in_page, page_of, place_in_line, serving_frame, storing_frame}
+use Rattle.ff_memory.specs.LineBytes.{line_in_page, page_of, offset_in_line, serving_frame, storing_frame}
 use Rattle.ff_memory.specs.Stores.{DrainsIf, IsDeviceStore, IsFrameStore, IsStore, IsStoreBy, IsStored, StoresBy, carries, is_store_refused}
 use Rattle.ff_memory.specs.declared.access.Access.TheVariants.{Served}
 use Rattle.ff_memory.specs.declared.access.Side.{Side}
@@ -28,11 +28,11 @@ use Rattle.ff_model.specs.declared.op.Reply.TheVariants.{Done, Full}
 use Rattle.ff_model.proofs.Appended.{faults_after-append, is_born-append, legal-append}
 use Rattle.ff_model.proofs.AppendedCalls.{is_marked-append}
 use Rattle.ff_model.proofs.Replies.{span_one_line}
-use Rattle.ff_table.specs.Table.{PageTableView, is_born_in, marks_of, with_born}
+use Rattle.ff_table.specs.Table.{TableView, is_born_in, marks_of, with_born}
 use Rattle.ff_calls.specs.Told.{IsTold}
 use Rattle.ff_calls.proofs.BornPages.{refused-told}
 use Rattle.ff_calls.proofs.DeviceReads.{device_byte-served, serving-posted, unmarked-framed}
-use Rattle.ff_calls.proofs.SpanBytes.{length-place}
+use Rattle.ff_calls.proofs.SpanBytes.{length-line_bytes}
 use Rattle.ff_calls.proofs.ToldAnswered.{IsCalled, is_born-same, served-follows, told-refused, within-op}
 
 -- a store in range is answered now
@@ -84,7 +84,7 @@ born-stored opening entries entry at bytes m d given done page within =
 pub told-done : (opening : Opening) (entries : List Entry) (entry : Entry) (at : ℕ) (bytes : List ℕ) (m : MemoryView) (d : DeviceState)
     (m' : MemoryView) (d' : DeviceState) → IsStoreAnswered opening entries at bytes m d entry
     → is_store_refused m (page_of at) ≡ false → StoreKeeps opening entries entry at m d m' d' → IsLocated m' d'
-    → IsStored (page_of at) (line_in_page at) (place_in_line at) bytes m d m' d' → IsTold opening (entries ++ entry ∷ []) m' d'
+    → IsStored (page_of at) (line_in_page at) (offset_in_line at) bytes m d m' d' → IsTold opening (entries ++ entry ∷ []) m' d'
 told-done opening entries entry at bytes m d m' d' given allowed keeps located stored =
     let told = given.called.told in
     let op = given.op in
@@ -97,17 +97,17 @@ told-done opening entries entry at bytes m d m' d' given allowed keeps located s
       legal = legal-append opening entries entry told.legal
           (served-follows opening entries entry (Store at bytes) m d given.called op free keeps.done);
       faults = omega arith;
-      pages = ap (λ (t : PageTableView). length t.homes) keeps.table ∙ told.pages;
+      pages = ap (λ (t : TableView). length t.homes) keeps.table ∙ told.pages;
       capacity = keeps.capacity ∙ told.capacity;
       flat = flat-stored opening.base entries entry opening.pages m d m' d' at bytes
-          (length-place m d (page_of at) (line_in_page at) given.called.sound given.called.device (omega arith))
+          (length-line_bytes m d (page_of at) (line_in_page at) given.called.sound given.called.device (omega arith))
           (span_one_line opening.pages at (length bytes) given.within) op keeps.done stored told.flat;
       born = λ page low.
-          ap (λ (t : PageTableView). is_born_in t page) keeps.table
+          ap (λ (t : TableView). is_born_in t page) keeps.table
           ∙ born-stored opening entries entry at bytes m d given keeps.done page low;
       marks = λ page line low.
           let done = keeps.done in
-          rw (ap (λ (t : PageTableView). marks_of t page) keeps.table)
+          rw (ap (λ (t : TableView). marks_of t page) keeps.table)
           (told.marks page line low ∙ sym (is_marked-append opening.base entries entry page line ∙ rw (done, op) refl));
       located = located;
       keeping = keeps.keeping;
@@ -124,7 +124,7 @@ drains-kept false opening entries m d d' told device is = rw is (refl, told.keep
 framed-keeps : (opening : Opening) (entries : List Entry) (entry : Entry) (at : ℕ) (bytes : List ℕ) (frame : ℕ) (side : Side)
     (m : MemoryView) (d : DeviceState) (m' : MemoryView) (d' : DeviceState) → IsStoreAnswered opening entries at bytes m d entry
     → storing_frame m (page_of at) (line_in_page at) ≡ Some frame
-    → IsFrameStore frame (page_of at) (line_in_page at) (place_in_line at) bytes m d (Served entry.reply side) m' d'
+    → IsFrameStore frame (page_of at) (line_in_page at) (offset_in_line at) bytes m d (Served entry.reply side) m' d'
     → StoreKeeps opening entries entry at m d m' d'
 framed-keeps opening entries entry at bytes frame side m d m' d' given goes is =
     let told = given.called.told in
@@ -143,7 +143,7 @@ framed-keeps opening entries entry at bytes frame side m d m' d' given goes is =
 posted-keeps : (opening : Opening) (entries : List Entry) (entry : Entry) (at : ℕ) (bytes : List ℕ) (side : Side)
     (m : MemoryView) (d : DeviceState) (m' : MemoryView) (d' : DeviceState) → IsStoreAnswered opening entries at bytes m d entry
     → storing_frame m (page_of at) (line_in_page at) ≡ None
-    → IsDeviceStore (page_of at) (line_in_page at) (place_in_line at) bytes (length entries) m d (Served entry.reply side) m' d'
+    → IsDeviceStore (page_of at) (line_in_page at) (offset_in_line at) bytes (length entries) m d (Served entry.reply side) m' d'
     → StoreKeeps opening entries entry at m d m' d'
 posted-keeps opening entries entry at bytes side m d m' d' given goes is =
     let told = given.called.told in
@@ -152,7 +152,7 @@ posted-keeps opening entries entry at bytes side m d m' d' given goes is =
     let post : Post = record {
       page = numbered page;
       line = line;
-      from = place_in_line at;
+      from = offset_in_line at;
       bytes = bytes;
       position = Some (length entries);
     } in
@@ -180,10 +180,10 @@ stored-by : (refused : Bool) (to : Option ℕ) (resident : Bool) (opening : Open
     (bytes : List ℕ) (side : Side) (m : MemoryView) (d : DeviceState) (m' : MemoryView) (d' : DeviceState)
     → IsStoreAnswered opening entries at bytes m d entry → is_store_refused m (page_of at) ≡ refused
     → storing_frame m (page_of at) (line_in_page at) ≡ to
-    → IsStoreBy refused to resident (page_of at) (line_in_page at) (place_in_line at) bytes (length entries) m d
+    → IsStoreBy refused to resident (page_of at) (line_in_page at) (offset_in_line at) bytes (length entries) m d
     (Served entry.reply side) m' d'
     → IsLocated m' d'
-    → StoresBy (Served entry.reply side) (page_of at) (line_in_page at) (place_in_line at) bytes m d m' d'
+    → StoresBy (Served entry.reply side) (page_of at) (line_in_page at) (offset_in_line at) bytes m d m' d'
     → IsTold opening (entries ++ entry ∷ []) m' d'
 stored-by true to resident opening entries entry at bytes side m d m' d' given refused goes is located stored =
     let told = given.called.told in
@@ -211,9 +211,9 @@ stored-by false None false opening entries entry at bytes side m d m' d' given a
 -- a store was answered: it is refused, a frame has it, or it was posted with the position of its entry
 pub told-stored : (opening : Opening) (entries : List Entry) (entry : Entry) (at : ℕ) (bytes : List ℕ) (side : Side) (m : MemoryView)
     (d : DeviceState) (m' : MemoryView) (d' : DeviceState) → IsCalled opening entries m d entry → entry.op ≡ Store at bytes
-    → IsStore (page_of at) (line_in_page at) (place_in_line at) bytes (length entries) m d (Served entry.reply side) m' d'
+    → IsStore (page_of at) (line_in_page at) (offset_in_line at) bytes (length entries) m d (Served entry.reply side) m' d'
     → IsLocated m' d'
-    → StoresBy (Served entry.reply side) (page_of at) (line_in_page at) (place_in_line at) bytes m d m' d'
+    → StoresBy (Served entry.reply side) (page_of at) (line_in_page at) (offset_in_line at) bytes m d m' d'
     → IsTold opening (entries ++ entry ∷ []) m' d'
 told-stored opening entries entry at bytes side m d m' d' called op is located stored =
     let given : IsStoreAnswered opening entries at bytes m d entry = record {

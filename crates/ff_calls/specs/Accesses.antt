@@ -6,7 +6,7 @@ use Rattle.ff_lines.specs.declared.line_mask.LineMask.{LineMask}
 use Rattle.ff_memory.specs.Loads.{IsLoad}
 use Rattle.ff_memory.specs.Marking.{IsMarkBy}
 use Rattle.ff_memory.specs.Memory.{MemoryView, marks_set}
-use Rattle.ff_memory.specs.Places.{SamePlaces, is_home, line_in_page, page_of, place_in_line}
+use Rattle.ff_memory.specs.LineBytes.{SameLineBytes, is_home, line_in_page, page_of, offset_in_line}
 use Rattle.ff_memory.specs.Stores.{IsStore, StoresBy}
 use Rattle.ff_memory.specs.declared.access.Access.{Access}
 use Rattle.ff_memory.specs.declared.access.Access.TheVariants.{Served}
@@ -44,7 +44,7 @@ abbrev pub Accesses : Op → ℕ → MemoryView → DeviceState → Access → M
     → Type 0
 Accesses (Load at len) position m d access m' d' = IsLoad at len m d access m' d'
 Accesses (Store at bytes) position m d access m' d' =
-    IsStore (page_of at) (line_in_page at) (place_in_line at) bytes position m d access m' d'
+    IsStore (page_of at) (line_in_page at) (offset_in_line at) bytes position m d access m' d'
 Accesses Verify position m d access m' d' = IsVerified m d access m' d'
 Accesses (Mark page from count) position m d access m' d' =
     IsMarking page.0 from count m d access m' d'
@@ -53,9 +53,9 @@ Accesses (Release page from count) position m d access m' d' =
 
 -- which lines the call leaves: a store that is served changes its own
 abbrev pub LeavesLines : Op → Access → MemoryView → DeviceState → MemoryView → DeviceState → Type 0
-LeavesLines (Load at len) access m d m' d' = SamePlaces m d m' d'
+LeavesLines (Load at len) access m d m' d' = SameLineBytes m d m' d'
 LeavesLines (Store at bytes) access m d m' d' =
-    StoresBy access (page_of at) (line_in_page at) (place_in_line at) bytes m d m' d'
-LeavesLines Verify access m d m' d' = SamePlaces m d m' d'
-LeavesLines (Mark page from count) access m d m' d' = SamePlaces m d m' d'
-LeavesLines (Release page from count) access m d m' d' = SamePlaces m d m' d'
+    StoresBy access (page_of at) (line_in_page at) (offset_in_line at) bytes m d m' d'
+LeavesLines Verify access m d m' d' = SameLineBytes m d m' d'
+LeavesLines (Mark page from count) access m d m' d' = SameLineBytes m d m' d'
+LeavesLines (Release page from count) access m d m' d' = SameLineBytes m d m' d'

@@ -5,7 +5,7 @@ use Rattle.ff_kept.specs.Keeping.{IsKeepingDevice}
 use Rattle.ff_lines.specs.DeviceState.{DeviceState}
 use Rattle.ff_memory.specs.Located.{IsLocated}
 use Rattle.ff_memory.specs.Memory.{MemoryView}
-use Rattle.ff_memory.specs.Places.{byte_of}
+use Rattle.ff_memory.specs.LineBytes.{byte_of}
 use Rattle.ff_model.specs.Callers.{is_marked}
 use Rattle.ff_model.specs.Flat.{IsFlat, is_born}
 use Rattle.ff_model.specs.Legal.{Opening, IsLegal, faults_after}

@@ -4,7 +4,7 @@ ghost use Rattle.ff_memory.specs.Located.{IsLocated};
 ghost use Rattle.ff_model.specs.Spans.{is_in_range, is_line_range};
 ghost use Rattle.ff_model.specs.declared.op.Op.TheVariants.{Mark, Release, Verify};
 ghost use Rattle.ff_calls.specs.Accesses.{Accesses, IsMarking, IsReleasing, IsVerified, LeavesLines};
-ghost use Rattle.ff_memory.specs.Places.{SamePlaces};
+ghost use Rattle.ff_memory.specs.LineBytes.{SameLineBytes};
 
 use ff_base::PageNo;
 use ff_lines::{LineDevice, LineMask};
@@ -18,7 +18,7 @@ pub fn access<D: LineDevice>(memory: &mut Memory, d: &mut D, op: &Op, position: 
     ensures accesses { Accesses op.now position memory.old (D.state d.old) result
         memory.new (D.state d.new) }
     ensures located { IsLocated memory.new (D.state d.new) }
-    ensures places { LeavesLines op.now result memory.old (D.state d.old)
+    ensures lines { LeavesLines op.now result memory.old (D.state d.old)
         memory.new (D.state d.new) }
     ensures own { D.own d.new ≡ D.own d.old }
 {
@@ -35,7 +35,7 @@ fn verify<D: LineDevice>(memory: &mut Memory, d: &mut D) -> Access
     requires located { IsLocated memory.old (D.state d.old) }
     ensures verified { IsVerified memory.old (D.state d.old) result memory.new (D.state d.new) }
     ensures located { IsLocated memory.new (D.state d.new) }
-    ensures places { SamePlaces memory.old (D.state d.old) memory.new (D.state d.new) }
+    ensures lines { SameLineBytes memory.old (D.state d.old) memory.new (D.state d.new) }
     ensures own { D.own d.new ≡ D.own d.old }
 {
     d.drain_all();
@@ -54,7 +54,7 @@ fn mark<D: LineDevice>(
     ensures marks { IsMarking page.0 from count memory.old (D.state d.old) result
         memory.new (D.state d.new) }
     ensures located { IsLocated memory.new (D.state d.new) }
-    ensures places { SamePlaces memory.old (D.state d.old) memory.new (D.state d.new) }
+    ensures lines { SameLineBytes memory.old (D.state d.old) memory.new (D.state d.new) }
     ensures own { D.own d.new ≡ D.own d.old }
 {
     let mask = LineMask::of_range(from, count);
@@ -73,7 +73,7 @@ fn release<D: LineDevice>(
     ensures releases { IsReleasing page.0 from count memory.old (D.state d.old) result
         memory.new (D.state d.new) }
     ensures located { IsLocated memory.new (D.state d.new) }
-    ensures places { SamePlaces memory.old (D.state d.old) memory.new (D.state d.new) }
+    ensures lines { SameLineBytes memory.old (D.state d.old) memory.new (D.state d.new) }
     ensures own { D.own d.new ≡ D.own d.old }
 {
     let mask = LineMask::of_range(from, count);

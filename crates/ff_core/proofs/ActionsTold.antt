@@ -9,7 +9,7 @@ use Rattle.ff_lines.specs.Works.{KeepsLines}
 use Rattle.ff_memory.specs.Located.{IsLocated}
 use Rattle.ff_memory.specs.Marking.{is_passed}
 use Rattle.ff_memory.specs.Memory.{IsMemorySound, MemoryView}
-use Rattle.ff_memory.specs.Places.{SamePlaces}
+use Rattle.ff_memory.specs.LineBytes.{SameLineBytes}
 use Rattle.ff_model.specs.Legal.{Opening}
 use Rattle.ff_model.specs.declared.history.Entry.{Entry}
 use Rattle.ff_device.specs.Device.{lines_in}
@@ -28,7 +28,7 @@ advanced-tells : {T E : Type 0} (opening : Opening) (entries : List Entry) (slot
     → IsAdvanced slot h progress h' → Tells opening entries h'
 advanced-tells opening entries slot h progress h' told sound device is =
     told-advanced opening entries slot is.what h.memory (lines_under h) h'.memory (lines_under h') told sound device is.step
-    is.moved.located is.moved.places
+    is.moved.located is.moved.lines
 
 turned-tells : {T E : Type 0} (opening : Opening) (entries : List Entry) (slot : ℕ) (h : HierarchyView T E) (progress : Progress)
     (h' : HierarchyView T E) → Tells opening entries h → IsTurnedBack slot h progress h' → Tells opening entries h'
@@ -36,10 +36,10 @@ turned-tells {T} {E} opening entries slot h progress h' told is =
     let memory = ap (λ (x : HierarchyView T E). x.memory) is.rest in
     let device : lines_under h' ≡ lines_under h = ap (λ (x : HierarchyView T E). lines_in x.device) is.rest in
     let located : IsLocated h'.memory (lines_under h) = subst (λ (d : DeviceState). IsLocated h'.memory d) device is.moved.located in
-    let places : SamePlaces h.memory (lines_under h) h'.memory (lines_under h) =
-    subst (λ (d : DeviceState). SamePlaces h.memory (lines_under h) h'.memory d) device is.moved.places in
+    let same_lines : SameLineBytes h.memory (lines_under h) h'.memory (lines_under h) =
+    subst (λ (d : DeviceState). SameLineBytes h.memory (lines_under h) h'.memory d) device is.moved.lines in
     subst (λ (d : DeviceState). IsTold opening entries h'.memory d) (sym device)
-    (told-turned opening entries slot h.memory (lines_under h) h'.memory told memory located places)
+    (told-turned opening entries slot h.memory (lines_under h) h'.memory told memory located same_lines)
 
 -- the device alone made a step
 kept-tells : {T E : Type 0} (opening : Opening) (entries : List Entry) (h h' : HierarchyView T E) → Tells opening entries h
@@ -62,7 +62,7 @@ evicted-tells : {T E : Type 0} (opening : Opening) (entries : List Entry) (frame
     (h' : HierarchyView T E) → Tells opening entries h → HasEvicted frame h progress h' → Tells opening entries h'
 evicted-tells opening entries frame h progress h' told is =
     told-evicted opening entries is.page.0 (is_passed h.evictor.hand frame) h.memory (lines_under h) is.between h'.memory
-    (lines_under h') told is.step is.passed is.moved.located is.moved.places
+    (lines_under h') told is.step is.passed is.moved.located is.moved.lines
 
 drained-tells : {T E : Type 0} (opening : Opening) (entries : List Entry) (h : HierarchyView T E) (progress : Progress)
     (h' : HierarchyView T E) → Tells opening entries h → IsDevice (lines_under h) → DrainsOldest h progress h'
@@ -84,10 +84,10 @@ performs-tells opening entries (Work page) h progress h' told sound device fault
     worked-tells opening entries page.0 h progress h' told sound device faults is
 performs-tells opening entries (Promote page) h progress h' told sound device faults is =
     told-promoted opening entries page.0 h.memory (lines_under h) h'.memory (lines_under h') told device is.step is.moved.located
-    is.moved.places
+    is.moved.lines
 performs-tells opening entries (Retreat page) h progress h' told sound device faults is =
     told-retreated opening entries page.0 h.memory (lines_under h) h'.memory (lines_under h') told is.step is.moved.located
-    is.moved.places
+    is.moved.lines
 performs-tells opening entries (Evict frame) h progress h' told sound device faults is =
     evicted-tells opening entries frame h progress h' told is
 performs-tells opening entries Collect h progress h' told sound device faults is =

@@ -12,7 +12,7 @@ use Rattle.ff_core.specs.Core.{CoreView, entry_now, next_number, with_entry}
 use Rattle.ff_core.specs.CoreSound.{IsCoreSound}
 use Rattle.ff_core.specs.Hierarchy.{HierarchyView, flash_under}
 use Rattle.ff_core.specs.Serving.{IsAccess, PolicyAfter, page_asked}
-use Rattle.ff_core.specs.Tally.{served_by}
+use Rattle.ff_core.specs.EventTally.{served_by}
 use Rattle.ff_model.specs.Legal.{refusal}
 use Rattle.ff_core.specs.Turns.{IsAttempt, IsMissStep, IsTurn, IsTurnBy, answered}
 use Rattle.ff_core.specs.declared.turn.Turn.{Turn}

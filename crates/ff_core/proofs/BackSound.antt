@@ -13,7 +13,7 @@ use Rattle.ff_core.specs.Core.{CoreView, next_number}
 use Rattle.ff_core.specs.CoreSound.{IsCoreSound, is_failed, is_promotion_by}
 use Rattle.ff_core.specs.Hierarchy.{HierarchyView, flash_under, lines_under}
 use Rattle.ff_core.specs.Performs.{Performs}
-use Rattle.ff_core.specs.Tally.{tally_after}
+use Rattle.ff_core.specs.EventTally.{tally_after}
 use Rattle.ff_core.specs.declared.action.Action.{Action}
 use Rattle.ff_core.specs.declared.action.Progress.{Progress}
 use Rattle.ff_core.specs.declared.action.Progress.TheVariants.{Did, Failed, Off}

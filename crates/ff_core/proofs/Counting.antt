@@ -7,7 +7,7 @@ use Rattle.ff_core.specs.Core.{CoreView}
 use Rattle.ff_core.specs.CoreSound.{IsCounted, has_failed, has_fault, is_promotion, is_served_access}
 use Rattle.ff_core.specs.Hierarchy.{HierarchyView, flash_under}
 use Rattle.ff_core.specs.Log.{LogView}
-use Rattle.ff_core.specs.declared.tally.Tally.{Tally}
+use Rattle.ff_core.specs.declared.tally.EventTally.{EventTally}
 use Rattle.ff_core.proofs.Running.{FailsBy}
 use Rattle.ff_core.proofs.Tallied.{CountsAlike, moves_of}
 
@@ -20,7 +20,7 @@ count-more test list last passes is =
     omega arith
 
 -- what an event adds to what is counted, and to what the history and the log tell
-pub record IsRecounted {T E : Type 0} (core : CoreView T E) (history : Entries) (events : ℕ) (log : LogView) (tally : Tally)
+pub record IsRecounted {T E : Type 0} (core : CoreView T E) (history : Entries) (events : ℕ) (log : LogView) (tally : EventTally)
     (h : HierarchyView T E) : Type 0 where
   pub served : tally.device + tally.host + count_by is_served_access core.history.entries
       ≡ core.tally.device + core.tally.host + count_by is_served_access history.entries
@@ -33,7 +33,7 @@ pub record IsRecounted {T E : Type 0} (core : CoreView T E) (history : Entries) 
       ≡ count_by has_fault core.history.entries + count_by has_failed core.log.turns + failures
   pub fails : FailsBy failures core.hierarchy.device.store h.device.store
 
-pub counted-over : {T E : Type 0} (core : CoreView T E) (history : Entries) (events : ℕ) (log : LogView) (tally : Tally)
+pub counted-over : {T E : Type 0} (core : CoreView T E) (history : Entries) (events : ℕ) (log : LogView) (tally : EventTally)
     (h : HierarchyView T E) → IsCounted core → core.opening.event ≤ core.events → IsRecounted core history events log tally h
     → IsCounted (record core { history = history; events = events; log = log; tally = tally; hierarchy = h })
 counted-over core history events log tally h counted from_on more =

@@ -20,7 +20,7 @@ use Rattle.ff_plb.specs.declared.slot.Slot.{Slot}
 use Rattle.ff_plb.specs.declared.slot.Way.{Way}
 use Rattle.ff_plb.specs.declared.slot.Way.TheVariants.{Coming, Leaving}
 use Rattle.ff_plb.proofs.Entries.{apart-same, entry-gone, entry-now, entry-other, entry_if-other}
-use Rattle.ff_table.specs.Table.{PageTableView, with_home}
+use Rattle.ff_table.specs.Table.{TableView, with_home}
 use Rattle.ff_table.specs.declared.table.Home.TheVariants.{Ssd, Host}
 use Rattle.ff_core.specs.EventsLeft.{entry_steps, is_full_buffer, slot_steps}
 use Rattle.ff_core.proofs.LinesLeft.{entry_some, landed_fewer, lifted_fewer}
@@ -66,7 +66,7 @@ stayed slot entry left m m' slots table page way fewer = record {
   page = λ other some. ap (λ (s : Slot). s.page) (sym (same_Some left other some)) ∙ page;
   way = λ other some. ap (λ (s : Slot). s.way) (sym (same_Some left other some)) ∙ way;
   ends = λ none leaves. absurd (none-some left (sym none));
-  homes = λ q other. ap (λ (t : PageTableView). home_at (record m { table = t }) q) table;
+  homes = λ q other. ap (λ (t : TableView). home_at (record m { table = t }) q) table;
 }
 
 landed_page : (entry : Slot) (flight : Flight) → entry.flight ≡ Some flight → (after_landing entry).page ≡ entry.page

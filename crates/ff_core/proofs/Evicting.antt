@@ -7,7 +7,7 @@ use Rattle.ff_memory.specs.Begins.{IsRetreated}
 use Rattle.ff_memory.specs.Located.{IsLocated}
 use Rattle.ff_memory.specs.Marking.{IsUnreferred, is_passed}
 use Rattle.ff_memory.specs.Memory.{MemoryView}
-use Rattle.ff_memory.specs.Places.{SamePlaces}
+use Rattle.ff_memory.specs.LineBytes.{SameLineBytes}
 use Rattle.ff_core.specs.Hierarchy.{HierarchyView, lines_under}
 use Rattle.ff_core.specs.Performs.{HasEvicted, HasRetreated}
 use Rattle.ff_core.specs.declared.action.Progress.{Progress}
@@ -18,13 +18,13 @@ pub evicted : {T E : Type 0} (page : PageNo) (frame : ℕ) (h mid h' : Hierarchy
     → HasRetreated page.0 h progress mid
     → IsUnreferred (is_passed mid.evictor.hand frame) mid.memory h'.memory
     → IsLocated h'.memory (lines_under h')
-    → SamePlaces mid.memory (lines_under mid) h'.memory (lines_under h')
+    → SameLineBytes mid.memory (lines_under mid) h'.memory (lines_under h')
     → h' ≡ record mid {
       memory = h'.memory;
       evictor = record mid.evictor { hand = (frame + 1) % length mid.memory.frames };
     }
     → HasEvicted frame h progress h'
-evicted {T = T} {E = E} page frame h mid h' progress holds began passed located places rest =
+evicted {T = T} {E = E} page frame h mid h' progress holds began passed located same_lines rest =
     let count : length mid.memory.frames ≡ length h.memory.frames =
     ap (λ (m : MemoryView). length m.frames) began.step.memory in
     let evictor : mid.evictor ≡ h.evictor = ap (λ (g : HierarchyView T E). g.evictor) began.rest in
@@ -39,7 +39,7 @@ evicted {T = T} {E = E} page frame h mid h' progress holds began passed located 
       passed = rw evictor at passed;
       moved = record {
         located = located;
-        places = λ p line low. places p line low ∙ began.moved.places p line low;
+        lines = λ p line low. same_lines p line low ∙ began.moved.lines p line low;
         own = ap own_of device ∙ began.moved.own;
       };
       rest = rest ∙ (cc);

@@ -5,7 +5,7 @@ use Rattle.std.specs.Prelude.{if◌then◌else◌}
 use Rattle.ff_frames.specs.Frames.{frame_at}
 use Rattle.ff_memory.specs.Begins.{turned_at, turned_by}
 use Rattle.ff_memory.specs.Memory.{IsMemorySound, MemoryView, entry_at, home_at}
-use Rattle.ff_memory.specs.Places.{frame_of_page, is_home}
+use Rattle.ff_memory.specs.LineBytes.{frame_of_page, is_home}
 use Rattle.ff_memory.proofs.Finishes.{home-here}
 use Rattle.ff_plb.specs.Plb.{HasEntry, IsFound}
 use Rattle.ff_plb.specs.Slot.{after_turn}
@@ -13,7 +13,7 @@ use Rattle.ff_plb.specs.declared.slot.Slot.{Slot}
 use Rattle.ff_plb.specs.declared.slot.Way.{Way}
 use Rattle.ff_plb.specs.declared.slot.Way.TheVariants.{Coming, Leaving}
 use Rattle.ff_plb.proofs.Entries.{apart-same, entry-now}
-use Rattle.ff_table.specs.Table.{PageTableView, home_of as home_of_page, with_home}
+use Rattle.ff_table.specs.Table.{TableView, home_of as home_of_page, with_home}
 use Rattle.ff_table.specs.declared.table.Home.{Home}
 use Rattle.ff_table.specs.declared.table.Home.TheVariants.{Ssd}
 use Rattle.ff_core.specs.EventsLeft.{entry_events, entry_steps, flight_events, home_events, most_slot_steps}
@@ -79,7 +79,7 @@ left_by : {T E : Type 0} (after : Option Slot) (slot : ℕ) (page : ℕ) (h h' :
 left_by None slot page h h' found way within s is entry =
     let number : found.entry.page.0 ≡ page = found.page_is in
     let home : home_at h'.memory page ≡ Ssd =
-    ap (λ (t : PageTableView). home_of_page t page) (s.step.ends is way)
+    ap (λ (t : TableView). home_of_page t page) (s.step.ends is way)
     ∙ ap (λ (q : ℕ). home_of_page (with_home q Ssd h.memory.table) page) number
     ∙ home-here h.memory.table.homes page Ssd within in
     let is_at : is_home h'.memory page ≡ true = home_is (home_at h'.memory page) (entry_at h'.memory page) home entry in

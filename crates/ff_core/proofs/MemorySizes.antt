@@ -11,7 +11,7 @@ use Rattle.ff_memory.specs.Begins.{IsPromoted, IsRetreated, turned_by}
 use Rattle.ff_memory.specs.Loads.{IsLoadBy}
 use Rattle.ff_memory.specs.Marking.{IsMarkBy}
 use Rattle.ff_memory.specs.Memory.{MemoryView, entry_at, frame_set, slot_set}
-use Rattle.ff_memory.specs.Places.{is_home, line_in_page, page_of, place_in_line, serving_frame, storing_frame}
+use Rattle.ff_memory.specs.LineBytes.{is_home, line_in_page, page_of, offset_in_line, serving_frame, storing_frame}
 use Rattle.ff_memory.specs.Stores.{DrainsIf, HitsEntry, IsStoreBy, carries, is_store_refused}
 use Rattle.ff_memory.specs.Loads.{span_of}
 use Rattle.ff_memory.specs.declared.access.Access.{Access}
@@ -197,7 +197,7 @@ accesses-sizes (Load at len) position m d access m' d' is =
     access m' d' is
 accesses-sizes (Store at bytes) position m d access m' d' is =
     store-sizes (is_store_refused m (page_of at)) (storing_frame m (page_of at) (line_in_page at)) (d.resident (page_of at))
-    (page_of at) (line_in_page at) (place_in_line at) bytes position m d access m' d' is
+    (page_of at) (line_in_page at) (offset_in_line at) bytes position m d access m' d' is
 accesses-sizes Verify position m d access m' d' is = still-sizes m d m' d' is.memory is.device.residence.sizes
 accesses-sizes (Mark page from count) position m d access m' d' is =
     mark-sizes (is_home m page.0) page.0 is.mask.0 m d access m' d' is.marks

@@ -7,7 +7,7 @@ use Rattle.ff_calls.proofs.ToldMissed.{Finds}
 use Rattle.ff_device.specs.Device.{own_of}
 use Rattle.ff_lines.specs.DeviceState.{DeviceState}
 use Rattle.ff_memory.specs.Memory.{MemoryView, entry_at}
-use Rattle.ff_memory.specs.Places.{is_home, page_of}
+use Rattle.ff_memory.specs.LineBytes.{is_home, page_of}
 use Rattle.ff_memory.specs.declared.access.What.{What}
 use Rattle.ff_model.specs.declared.op.Op.{Op}
 use Rattle.ff_model.specs.declared.op.Op.TheVariants.{Load, Store, Verify, Mark, Release}

@@ -23,12 +23,12 @@ use Rattle.ff_core.specs.CoreSound.{IsCoreSound}
 use Rattle.ff_core.specs.Hierarchy.{HierarchyView, flash_under, lines_under}
 use Rattle.ff_core.specs.Misses.{IsActionAtRest, IsMarkAction, IsMissAction, action_in_flight, at_rest, in_flight, retreats, waits_for_slot, works}
 use Rattle.ff_core.specs.Performs.{Performs}
-use Rattle.ff_core.specs.Tally.{started_by, tally_after}
+use Rattle.ff_core.specs.EventTally.{started_by, tally_after}
 use Rattle.ff_core.specs.Turns.{AfterStep, IsMiss, IsMissStep}
 use Rattle.ff_core.specs.declared.action.Action.{Action}
 use Rattle.ff_core.specs.declared.action.Progress.{Progress}
 use Rattle.ff_core.specs.declared.action.Progress.TheVariants.{Did, Failed, Off}
-use Rattle.ff_core.specs.declared.tally.Tally.{Tally}
+use Rattle.ff_core.specs.declared.tally.EventTally.{EventTally}
 use Rattle.ff_core.specs.declared.turn.Turn.{Turn}
 use Rattle.ff_core.proofs.ActionsTold.{performs-tells}
 use Rattle.ff_core.proofs.Recounting.{recounted-fault, recounted-stepped, recounted-still}
@@ -40,7 +40,7 @@ use Rattle.ff_core.proofs.Timing.{later-cut, later-fault, later-looked, later-st
 
 -- no step for a call is a promotion
 abbrev IsOther : Action → Type 0
-IsOther action = (tally : Tally) → (started_by action tally).promoted ≡ tally.promoted
+IsOther action = (tally : EventTally) → (started_by action tally).promoted ≡ tally.promoted
 
 flight-other : (way : Way) (slot : ℕ) → IsOther (action_in_flight way slot)
 flight-other Coming slot tally = refl

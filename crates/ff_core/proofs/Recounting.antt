@@ -15,20 +15,20 @@ use Rattle.ff_core.specs.Core.{CoreView, entry_now, next_number, with_entry}
 use Rattle.ff_core.specs.CoreSound.{has_failed, has_fault, is_failed, is_fault, is_promotion, is_promotion_by, is_served_access, is_served_op}
 use Rattle.ff_core.specs.Hierarchy.{HierarchyView}
 use Rattle.ff_core.specs.declared.log.Back.{Back}
-use Rattle.ff_core.specs.declared.tally.Tally.{Tally}
+use Rattle.ff_core.specs.declared.tally.EventTally.{EventTally}
 use Rattle.ff_core.proofs.Counting.{IsRecounted, count-more}
 use Rattle.ff_core.proofs.Running.{FailsBy, RunsOnce, fails-none, fails-once, runs-same}
 use Rattle.ff_core.proofs.Tallied.{CountsAlike, CountsMove, moves_of}
 
 -- the tally after a call was answered
-pub record CountsCall (passes : Bool) (old new : Tally) : Type 0 where
+pub record CountsCall (passes : Bool) (old new : EventTally) : Type 0 where
   pub served : new.device + new.host ≡ old.device + old.host + cond {A = ℕ} passes 1 0
   pub promoted : new.promoted ≡ old.promoted
   pub moves : moves_of new ≡ moves_of old
 
 -- a call was answered without an operation
 pub recounted-answered : {T E : Type 0} (core : CoreView T E) (caller : Caller) (number : ℕ) (op : Op) (reply : Reply) (faults : ℕ)
-    (passes : Bool) (events : ℕ) (tally : Tally) (h : HierarchyView T E) → is_served_op op reply ≡ passes → is_fault reply ≡ false
+    (passes : Bool) (events : ℕ) (tally : EventTally) (h : HierarchyView T E) → is_served_op op reply ≡ passes → is_fault reply ≡ false
     → CountsCall passes core.tally tally → CountsAlike h.policy tally → core.events ≤ events
     → h.device.store ≡ core.hierarchy.device.store
     → IsRecounted core (with_entry (entry_now core caller number op reply faults) core.history) events core.log tally h
@@ -77,7 +77,7 @@ recounted-fault core caller number op faults events h alike rose runs =
     }
 
 -- a step was made for a call, which is no promotion
-pub recounted-stepped : {T E : Type 0} (core : CoreView T E) (tally : Tally) (h : HierarchyView T E) → core.events < last_event
+pub recounted-stepped : {T E : Type 0} (core : CoreView T E) (tally : EventTally) (h : HierarchyView T E) → core.events < last_event
     → CountsMove core.tally tally → tally.promoted ≡ core.tally.promoted → CountsAlike h.policy tally
     → RunsOnce core.hierarchy.device.store None h.device.store
     → IsRecounted core core.history (next_number core.events) core.log tally h
@@ -109,7 +109,7 @@ recounted-still core h alike fails = record {
 }
 
 -- a turn was made that didn't fail
-pub recounted-turned : {T E : Type 0} (core : CoreView T E) (kind : Kind) (back : Back) (events : ℕ) (tally : Tally)
+pub recounted-turned : {T E : Type 0} (core : CoreView T E) (kind : Kind) (back : Back) (events : ℕ) (tally : EventTally)
     (h : HierarchyView T E) → tally.device ≡ core.tally.device → tally.host ≡ core.tally.host
     → moves_of tally + core.events ≤ moves_of core.tally + events
     → tally.promoted ≡ core.tally.promoted + cond {A = ℕ} (is_promotion_by kind back) 1 0 → is_failed back ≡ false

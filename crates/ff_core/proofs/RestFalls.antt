@@ -11,7 +11,7 @@ use Rattle.ff_lines.specs.DeviceState.{DeviceState}
 use Rattle.ff_lines.specs.LineMask.{mask_others}
 use Rattle.ff_memory.specs.Advances.{Advances}
 use Rattle.ff_memory.specs.Memory.{MemoryView, entry_at, numbered}
-use Rattle.ff_memory.specs.Places.{is_home}
+use Rattle.ff_memory.specs.LineBytes.{is_home}
 use Rattle.ff_memory.specs.declared.access.What.{What}
 use Rattle.ff_memory.proofs.Flights.{page-within}
 use Rattle.ff_plb.specs.Plb.{HasEntry, IsFound, IsNoneEmpty, slot_at}

@@ -4,13 +4,13 @@ use Rattle.std.proofs.Common.{◌≡◌, ◌≢◌, ◌≤◌, ◌<◌, ◌+◌,
 use Rattle.std.proofs.lemmas.Bool.{cases_lt}
 use Rattle.std.proofs.lemmas.List.{get_or-replicate, get_or_default, get_or_past, length-map, length-replicate, same_lists}
 use Rattle.ff_model.specs.Image.{Content, held_page}
-use Rattle.ff_table.specs.Table.{PageTableView, with_born}
+use Rattle.ff_table.specs.Table.{TableView, with_born}
 use Rattle.ff_table.specs.declared.table.Home.{Home}
 use Rattle.ff_core.specs.Resume.{pages_held}
 use Rattle.ff_core.proofs.ResumeHeld.{held-each}
 
 -- of the first pages those are born that an image holds, and no other is born yet
-pub record IsBearing (base : Content) (pages count : ℕ) (old table : PageTableView) : Type 0 where
+pub record IsBearing (base : Content) (pages count : ℕ) (old table : TableView) : Type 0 where
   pub homes : table.homes ≡ old.homes
   pub marks : table.marks ≡ old.marks
   pub size : length table.born ≡ pages
@@ -23,7 +23,7 @@ none-born pages page = elim (cases_lt page pages) [
   | inr past ↦ get_or_past (replicate pages false) page false (omega (arith, length-replicate pages false))
 ]
 
-pub bearing-begun : (base : Content) (pages : ℕ) (table : PageTableView) → table.born ≡ replicate pages false
+pub bearing-begun : (base : Content) (pages : ℕ) (table : TableView) → table.born ≡ replicate pages false
     → IsBearing base pages 0 table table
 bearing-begun base pages table unborn = record {
   homes = refl;
@@ -33,7 +33,7 @@ bearing-begun base pages table unborn = record {
   rest = λ page past. ap (λ (born : List Bool). get_or born page false) unborn ∙ none-born pages page;
 }
 
-pub bearing-more : (base : Content) (pages page : ℕ) (old table : PageTableView) (holds : Bool) → page < pages
+pub bearing-more : (base : Content) (pages page : ℕ) (old table : TableView) (holds : Bool) → page < pages
     → IsBearing base pages page old table → holds ≡ is_some (held_page base page)
     → IsBearing base pages (page + 1) old (if holds then with_born page table else table)
 bearing-more base pages page old table false within bearing is = record {
@@ -64,14 +64,14 @@ bearing-more base pages page old table true within bearing is = record {
       get_or-set_other table.born page p true false apart ∙ bearing.rest p (omega arith));
 }
 
-table-of : (old table : PageTableView) (born : List Bool) → table.homes ≡ old.homes → table.marks ≡ old.marks → table.born ≡ born
+table-of : (old table : TableView) (born : List Bool) → table.homes ≡ old.homes → table.marks ≡ old.marks → table.born ≡ born
     → table ≡ record old { born = born }
 table-of old table born homes marks same =
-    let sites : List Home → List ℕ → PageTableView = λ h m. record { homes = h; marks = m; born = table.born } in
-    let made : List Bool → PageTableView = λ b. record { homes = old.homes; marks = old.marks; born = b } in
+    let sites : List Home → List ℕ → TableView = λ h m. record { homes = h; marks = m; born = table.born } in
+    let made : List Bool → TableView = λ b. record { homes = old.homes; marks = old.marks; born = b } in
     ap₂ sites homes marks ∙ ap made same
 
-pub bearing-done : (base : Content) (pages : ℕ) (old table : PageTableView) → length base.pages ≡ pages
+pub bearing-done : (base : Content) (pages : ℕ) (old table : TableView) → length base.pages ≡ pages
     → IsBearing base pages pages old table → table ≡ record old { born = pages_held base }
 bearing-done base pages old table size bearing =
     let count : length (pages_held base) ≡ pages = length-map base.pages (λ (held : Option (List ℕ)). is_some held) ∙ size in

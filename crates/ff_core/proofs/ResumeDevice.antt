@@ -15,7 +15,7 @@ use Rattle.ff_device.proofs.SeenPages.{length-pages, seen_bytes, store_seen, sto
 use Rattle.ff_flash.specs.Cells.{Cell}
 use Rattle.ff_lines.specs.PageSets.{count_below}
 use Rattle.ff_lines.proofs.PageCounts.{count_below-same}
-use Rattle.ff_map.specs.PageMap.{IsMapSound, mapping_of}
+use Rattle.ff_map.specs.PageMap.{IsPageMapSound, mapping_of}
 use Rattle.ff_map.specs.declared.places.Mapping.{Mapping}
 use Rattle.ff_mount.proofs.Pages.{way_of_slot}
 use Rattle.ff_mount.proofs.Sounding.{held_over}
@@ -110,7 +110,7 @@ pub room-over : (g : Geometry) (store : PageStoreView) (cache : CacheView) → I
 room-over g store cache over = ap₂ (λ (blocks per_block : ℕ). (blocks - 1) * per_block - 1) over.blocks over.per_block
 
 begun : (g : Geometry) (store : PageStoreView) (cache : CacheView) → IsWithinLimits g → IsStoreSound store
-    → IsMapSound store.world.places → IsCacheOver g store cache → store.waits ≡ None → CanBegin (parts_over store cache g)
+    → IsPageMapSound store.world.places → IsCacheOver g store cache → store.waits ≡ None → CanBegin (parts_over store cache g)
 begun g store cache limits sound map_sound over none =
     let seen = store_seen store sound map_sound in
     let pages = pages-over g store cache over in
@@ -132,7 +132,7 @@ begun g store cache limits sound map_sound over none =
 
 -- its parts may begin
 pub resumed_begins : (g : Geometry) (store : PageStoreView) (cache : CacheView) (window : WindowView) → IsWithinLimits g
-    → IsStoreSound store → IsMapSound store.world.places → IsCacheOver g store cache → store.waits ≡ None → window ≡ record { posts = []; room = g.window }
+    → IsStoreSound store → IsPageMapSound store.world.places → IsCacheOver g store cache → store.waits ≡ None → window ≡ record { posts = []; room = g.window }
     → CanBegin (parts_of (record { store = store; cache = cache; window = window }))
 resumed_begins g store cache window limits sound map_sound over none is =
     let device : WindowView → DeviceView = λ w. record { store = store; cache = cache; window = w } in

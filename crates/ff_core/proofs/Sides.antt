@@ -5,7 +5,7 @@ use Rattle.ff_lines.specs.DeviceState.{DeviceState}
 use Rattle.ff_memory.specs.Loads.{IsLoadBy, span_of}
 use Rattle.ff_memory.specs.Marking.{IsMarkBy}
 use Rattle.ff_memory.specs.Memory.{MemoryView}
-use Rattle.ff_memory.specs.Places.{is_home, line_in_page, page_of, place_in_line, serving_frame, storing_frame}
+use Rattle.ff_memory.specs.LineBytes.{is_home, line_in_page, page_of, offset_in_line, serving_frame, storing_frame}
 use Rattle.ff_memory.specs.Stores.{IsStoreBy, is_store_refused}
 use Rattle.ff_memory.specs.declared.access.Access.TheVariants.{Served}
 use Rattle.ff_memory.specs.declared.access.Side.{Side}
@@ -15,8 +15,8 @@ use Rattle.ff_model.specs.declared.op.Op.TheVariants.{Load, Store, Verify, Mark,
 use Rattle.ff_model.specs.declared.op.Reply.{Reply}
 use Rattle.ff_model.specs.declared.op.Reply.TheVariants.{Bytes, Done, Full}
 use Rattle.ff_core.specs.CoreSound.{is_fault, is_served_op}
-use Rattle.ff_core.specs.Tally.{served_by}
-use Rattle.ff_core.specs.declared.tally.Tally.{Tally}
+use Rattle.ff_core.specs.EventTally.{served_by}
+use Rattle.ff_core.specs.declared.tally.EventTally.{EventTally}
 
 -- the call was served by a frame or by the device
 abbrev pub is_side : Side → Bool
@@ -70,7 +70,7 @@ access-sided (Load at len) position reply side m d m' d' is =
     reply side m d m' d' is
 access-sided (Store at bytes) position reply side m d m' d' is =
     store-sided (is_store_refused m (page_of at)) (storing_frame m (page_of at) (line_in_page at)) (d.resident (page_of at)) at
-    (page_of at) (line_in_page at) (place_in_line at) bytes position reply side m d m' d' is
+    (page_of at) (line_in_page at) (offset_in_line at) bytes position reply side m d m' d' is
 access-sided Verify position reply side m d m' d' is =
     sided-as Verify reply Done side Neither is.access_is (record { counts = refl; well = refl })
 access-sided (Mark page from count) position reply side m d m' d' is =
@@ -80,12 +80,12 @@ access-sided (Release page from count) position reply side m d m' d' is =
     sided-as (Release page from count) reply Done side Neither is.access_is (record { counts = refl; well = refl })
 
 -- a served call is counted on its side, and no move
-pub record CountsSide (side : Side) (old new : Tally) : Type 0 where
+pub record CountsSide (side : Side) (old new : EventTally) : Type 0 where
   pub served : new.device + new.host ≡ old.device + old.host + cond {A = ℕ} (is_side side) 1 0
   pub promoted : new.promoted ≡ old.promoted
   pub moves : new.landed + new.dropped + new.promoted + new.retreated ≡ old.landed + old.dropped + old.promoted + old.retreated
 
-pub served-side : (side : Side) (tally : Tally) → CountsSide side tally (served_by side tally)
+pub served-side : (side : Side) (tally : EventTally) → CountsSide side tally (served_by side tally)
 served-side Device tally = record { served = omega arith; promoted = refl; moves = refl }
 served-side Host tally = record { served = omega arith; promoted = refl; moves = refl }
 served-side Neither tally = record { served = omega arith; promoted = refl; moves = refl }

@@ -6,14 +6,14 @@ use Rattle.ff_core.specs.Core.{CoreView}
 use Rattle.ff_core.specs.CoreSound.{IsCoreSound, IsSized}
 use Rattle.ff_core.specs.Hierarchy.{HierarchyView, flash_under, lines_under}
 use Rattle.ff_core.specs.Log.{LogView}
-use Rattle.ff_core.specs.declared.tally.Tally.{Tally}
+use Rattle.ff_core.specs.declared.tally.EventTally.{EventTally}
 use Rattle.ff_core.proofs.Counting.{IsRecounted, counted-over}
 use Rattle.ff_core.proofs.Sizes.{KeepsParts}
 use Rattle.ff_core.proofs.MemorySizes.{sizes-same}
 use Rattle.ff_core.proofs.Tallied.{CountsAlike}
 use Rattle.ff_core.proofs.Timing.{IsLater, timed-over}
 
-sized-over : {T E : Type 0} (core : CoreView T E) (history : Entries) (events : ℕ) (log : LogView) (tally : Tally)
+sized-over : {T E : Type 0} (core : CoreView T E) (history : Entries) (events : ℕ) (log : LogView) (tally : EventTally)
     (h : HierarchyView T E) → IsSized core → KeepsParts core.hierarchy h → history.room ≡ core.history.room
     → log.room ≡ core.log.room
     → IsSized (record core { history = history; events = events; log = log; tally = tally; hierarchy = h })
@@ -37,7 +37,7 @@ sized-over core history events log tally h sized kept calls turns =
     }
 
 -- what an event leaves of a core's parts
-pub record IsLeft {T E : Type 0} (core : CoreView T E) (history : Entries) (events : ℕ) (log : LogView) (tally : Tally)
+pub record IsLeft {T E : Type 0} (core : CoreView T E) (history : Entries) (events : ℕ) (log : LogView) (tally : EventTally)
     (h : HierarchyView T E) : Type 0 where
   pub parts : KeepsParts core.hierarchy h
   pub calls : history.room ≡ core.history.room
@@ -46,7 +46,7 @@ pub record IsLeft {T E : Type 0} (core : CoreView T E) (history : Entries) (even
   pub later : IsLater core history events h
   pub counts : IsRecounted core history events log tally h
 
-pub sound-over : {T E : Type 0} (core : CoreView T E) (history : Entries) (events : ℕ) (log : LogView) (tally : Tally)
+pub sound-over : {T E : Type 0} (core : CoreView T E) (history : Entries) (events : ℕ) (log : LogView) (tally : EventTally)
     (h : HierarchyView T E) → IsCoreSound core → (flash_under core.hierarchy).on ≡ true → IsLeft core history events log tally h
     → IsCoreSound (record core { history = history; events = events; log = log; tally = tally; hierarchy = h })
 sound-over core history events log tally h sound on left = record {

@@ -12,7 +12,7 @@ use Rattle.ff_core.specs.Core.{CoreView, entry_now, next_number, with_entry}
 use Rattle.ff_core.specs.CoreSound.{IsTimed}
 use Rattle.ff_core.specs.Hierarchy.{HierarchyView, flash_under}
 use Rattle.ff_core.specs.Log.{LogView}
-use Rattle.ff_core.specs.declared.tally.Tally.{Tally}
+use Rattle.ff_core.specs.declared.tally.EventTally.{EventTally}
 
 -- the event number behind an event, its history and its operations
 pub record IsLater {T E : Type 0} (core : CoreView T E) (history : Entries) (events : ℕ) (h : HierarchyView T E) : Type 0 where
@@ -24,7 +24,7 @@ pub record IsLater {T E : Type 0} (core : CoreView T E) (history : Entries) (eve
   pub cut : (flash_under h).operations + core.events ≤ (flash_under core.hierarchy).operations + events + 1
 
 -- an event with the power on
-pub timed-over : {T E : Type 0} (core : CoreView T E) (history : Entries) (events : ℕ) (log : LogView) (tally : Tally)
+pub timed-over : {T E : Type 0} (core : CoreView T E) (history : Entries) (events : ℕ) (log : LogView) (tally : EventTally)
     (h : HierarchyView T E) → IsTimed core → (flash_under core.hierarchy).on ≡ true → IsLater core history events h
     → IsTimed (record core { history = history; events = events; log = log; tally = tally; hierarchy = h })
 timed-over core history events log tally h timed on later =

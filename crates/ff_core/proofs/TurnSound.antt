@@ -20,7 +20,7 @@ use Rattle.ff_core.specs.Core.{CoreView, entry_now, next_number, with_entry}
 use Rattle.ff_core.specs.CoreSound.{IsCoreSound, IsTimed, is_fault, is_served_op}
 use Rattle.ff_core.specs.Hierarchy.{HierarchyView, flash_under, lines_under}
 use Rattle.ff_core.specs.Serving.{page_asked}
-use Rattle.ff_core.specs.Tally.{served_by}
+use Rattle.ff_core.specs.EventTally.{served_by}
 use Rattle.ff_core.specs.Turns.{IsAttempt, IsServed, IsTurn, IsTurnBy, answered, misses, serves}
 use Rattle.ff_core.specs.declared.turn.Turn.{Turn}
 use Rattle.ff_core.proofs.MissSound.{miss-sound}
@@ -110,7 +110,7 @@ served-sound {T} {E} answers old caller number op reply new sound memory device 
             within = range;
             going = going;
           })
-          is.access.accesses is.access.located is.access.places;
+          is.access.accesses is.access.located is.access.lines;
       later = later-answered old caller number op reply faults after sound.timed is.access.store;
       counts = recounted-answered old caller number op reply faults (is_side is.side) (next_number old.events)
           (served_by is.side old.tally) after sided.counts sided.well

@@ -9,7 +9,7 @@ use Rattle.ff_core.specs.Core.{CoreView, next_number}
 use Rattle.ff_core.specs.Hierarchy.{HierarchyView}
 use Rattle.ff_core.specs.Log.{LogView}
 use Rattle.ff_core.specs.Performs.{Performs}
-use Rattle.ff_core.specs.Tally.{tally_after}
+use Rattle.ff_core.specs.EventTally.{tally_after}
 use Rattle.ff_core.specs.declared.action.Action.{Action}
 use Rattle.ff_core.specs.declared.action.Action.TheVariants.{Work}
 use Rattle.ff_core.specs.declared.action.Progress.{Progress}

@@ -13,7 +13,7 @@ use Rattle.ff_model.specs.declared.op.Op.{Op}
 use Rattle.ff_model.specs.declared.op.Reply.{Reply}
 use Rattle.ff_core.specs.Hierarchy.{HierarchyView, flash_under}
 use Rattle.ff_core.specs.Log.{LogView}
-use Rattle.ff_core.specs.declared.tally.Tally.{Tally}
+use Rattle.ff_core.specs.declared.tally.EventTally.{EventTally}
 
 -- how the session was opened, its geometry, how many operations of each kind the store had counted then, its answered
 -- calls, the event number, its background turns, what was done, and the hierarchy
@@ -24,7 +24,7 @@ pub record CoreView (T E : Type 0) : Type 0 where
   pub history : Entries
   pub events : ℕ
   pub log : LogView
-  pub tally : Tally
+  pub tally : EventTally
   pub hierarchy : HierarchyView T E
 
 -- for how many more calls there is room, and for how many more turns

@@ -9,7 +9,7 @@ use Rattle.ff_lines.specs.LineMask.{has_line}
 use Rattle.ff_lines.specs.PageSets.{count_below}
 use Rattle.ff_lines.specs.declared.line_mask.LineMask.{LineMask}
 use Rattle.ff_memory.specs.Memory.{entry_at}
-use Rattle.ff_memory.specs.Places.{is_home, page_of}
+use Rattle.ff_memory.specs.LineBytes.{is_home, page_of}
 use Rattle.ff_model.specs.declared.op.Op.{Op}
 use Rattle.ff_model.specs.declared.op.Op.TheVariants.{Load, Store, Verify, Mark, Release}
 use Rattle.ff_plb.specs.Plb.{entry_of, slot_at}

@@ -16,7 +16,7 @@ use Rattle.ff_policy.specs.Tuner.{TunerView}
 use Rattle.ff_store.specs.PageStore.{new_store}
 use Rattle.ff_core.specs.Core.{CoreView}
 use Rattle.ff_core.specs.Hierarchy.{HierarchyView}
-use Rattle.ff_core.specs.Tally.{no_tally}
+use Rattle.ff_core.specs.EventTally.{no_tally}
 use Rattle.ff_core.specs.declared.core_state.Room.{Room}
 
 -- a flash of this geometry with the power on, of which every page is erased

@@ -6,6 +6,7 @@ pub mod Choices
 pub mod Core
 pub mod CoreSound
 pub mod Drives
+pub mod EventTally
 pub mod EventsLeft
 pub mod Fresh
 pub mod Hierarchy
@@ -18,6 +19,5 @@ pub mod Record
 pub mod RecordFields
 pub mod Resume
 pub mod Serving
-pub mod Tally
 pub mod Turns
 pub mod Until

@@ -2,7 +2,7 @@
 use Rattle.std.specs.Prelude.{ℕ, ◌<◌, ◌≡◌, true, false, length, Some, None}
 use Rattle.ff_base.specs.declared.numbers.PageNo.{PageNo}
 use Rattle.ff_memory.specs.Memory.{entry_at}
-use Rattle.ff_memory.specs.Places.{is_home}
+use Rattle.ff_memory.specs.LineBytes.{is_home}
 use Rattle.ff_model.specs.declared.op.Op.{Op}
 use Rattle.ff_model.specs.declared.op.Op.TheVariants.{Load, Store, Verify, Mark, Release}
 use Rattle.ff_plb.specs.Plb.{IsFound, IsNoneEmpty}

@@ -11,7 +11,7 @@ use Rattle.ff_memory.specs.Begins.{IsPromoted, IsRetreated, turned_at}
 use Rattle.ff_memory.specs.Located.{IsLocated}
 use Rattle.ff_memory.specs.Marking.{IsUnreferred, is_passed}
 use Rattle.ff_memory.specs.Memory.{MemoryView}
-use Rattle.ff_memory.specs.Places.{SamePlaces}
+use Rattle.ff_memory.specs.LineBytes.{SameLineBytes}
 use Rattle.ff_memory.specs.declared.access.What.{What}
 use Rattle.ff_memory.specs.declared.access.What.TheVariants.{Started, Worked, Drained, Sealed, Collected}
 use Rattle.ff_plb.specs.Plb.{IsFound, slot_at}
@@ -32,7 +32,7 @@ use Rattle.ff_core.specs.declared.action.Progress.TheVariants.{Did, Failed, Off}
 -- each slot of the cache holds the page that it held
 pub record IsMoved {T E : Type 0} (h h' : HierarchyView T E) : Type 0 where
   pub located : IsLocated h'.memory (lines_under h')
-  pub places : SamePlaces h.memory (lines_under h) h'.memory (lines_under h')
+  pub lines : SameLineBytes h.memory (lines_under h) h'.memory (lines_under h')
   pub own : own_of h'.device ≡ own_of h.device
 
 -- the page in flight in a slot made its step

@@ -14,10 +14,10 @@ use Rattle.ff_mount.specs.Over.{IsCacheOver}
 use Rattle.ff_policy.specs.Policy.{fresh_policy}
 use Rattle.ff_policy.specs.Tuner.{TunerView}
 use Rattle.ff_store.specs.PageStore.{PageStoreView}
-use Rattle.ff_table.specs.Table.{PageTableView, fresh_table}
+use Rattle.ff_table.specs.Table.{TableView, fresh_table}
 use Rattle.ff_core.specs.Core.{CoreView}
 use Rattle.ff_core.specs.Hierarchy.{HierarchyView}
-use Rattle.ff_core.specs.Tally.{no_tally}
+use Rattle.ff_core.specs.EventTally.{no_tally}
 use Rattle.ff_core.specs.declared.core_state.Room.{Room}
 
 -- no slot of the cache is pinned
@@ -41,7 +41,7 @@ abbrev pub pages_held : Content → List Bool
 pages_held base = map (λ held. is_some held) base.pages
 
 -- a page table in which every page is at home on the SSD, and exactly these are born
-abbrev pub resumed_table : ℕ → List ℕ → List Bool → PageTableView
+abbrev pub resumed_table : ℕ → List ℕ → List Bool → TableView
 resumed_table pages marks born = record (fresh_table pages marks) { born = born }
 
 -- a memory in which every frame is free, every page is at home on the SSD, and exactly the held ones are born

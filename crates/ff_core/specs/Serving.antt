@@ -4,7 +4,7 @@ use Rattle.ff_cache.specs.Cache.{IsCacheSound}
 use Rattle.ff_calls.specs.Accesses.{Accesses, LeavesLines}
 use Rattle.ff_device.specs.Device.{own_of}
 use Rattle.ff_memory.specs.Located.{IsLocated}
-use Rattle.ff_memory.specs.Places.{page_of}
+use Rattle.ff_memory.specs.LineBytes.{page_of}
 use Rattle.ff_memory.specs.declared.access.Access.{Access}
 use Rattle.ff_memory.specs.declared.access.Side.{Side}
 use Rattle.ff_memory.specs.declared.access.Side.TheVariants.{Device, Host, Neither}
@@ -18,7 +18,7 @@ pub record IsAccess {T E : Type 0} (op : Op) (position : ℕ) (h : HierarchyView
     (access : Access) (h' : HierarchyView T E) : Type 0 where
   pub accesses : Accesses op position h.memory (lines_under h) access h'.memory (lines_under h')
   pub located : IsLocated h'.memory (lines_under h')
-  pub places : LeavesLines op access h.memory (lines_under h) h'.memory (lines_under h')
+  pub lines : LeavesLines op access h.memory (lines_under h) h'.memory (lines_under h')
   pub store : h'.device.store ≡ h.device.store
   pub own : own_of h'.device ≡ own_of h.device
   pub cache : IsCacheSound h'.device.cache

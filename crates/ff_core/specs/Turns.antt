@@ -13,7 +13,7 @@ use Rattle.ff_core.specs.Hierarchy.{HierarchyView, flash_under}
 use Rattle.ff_core.specs.Misses.{IsMissAction}
 use Rattle.ff_core.specs.Performs.{Performs}
 use Rattle.ff_core.specs.Serving.{IsAccess, PolicyAfter, page_asked}
-use Rattle.ff_core.specs.Tally.{served_by, tally_after}
+use Rattle.ff_core.specs.EventTally.{served_by, tally_after}
 use Rattle.ff_core.specs.declared.action.Action.{Action}
 use Rattle.ff_core.specs.declared.action.Progress.{Progress}
 use Rattle.ff_core.specs.declared.action.Progress.TheVariants.{Did, Failed, Off as ProgressOff}

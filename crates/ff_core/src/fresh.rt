@@ -8,13 +8,13 @@ ghost use Rattle.ff_table.specs.Table.{fresh_table};
 ghost use Rattle.ff_gc.specs.Counts.{no_counts};
 ghost use Rattle.ff_model.specs.Legal.{opening_of};
 ghost use Rattle.ff_core.specs.Fresh.{IsFreshFlash, fresh_core, fresh_device};
-ghost use Rattle.ff_core.specs.Tally.{no_tally};
+ghost use Rattle.ff_core.specs.EventTally.{no_tally};
 
 use crate::core_state::{Core, Room};
 use crate::hierarchy::Hierarchy;
 use crate::log::Log;
 use crate::state::State;
-use crate::tally::Tally;
+use crate::tally::EventTally;
 use ff_base::{Geometry, Marks, NoMemory, PageBuf};
 use ff_cache::Cache;
 use ff_device::Device;
@@ -157,7 +157,7 @@ fn assemble<F: Flash, T: Tune, E: Pick>(
         history: books.history,
         events: 0,
         log: books.log,
-        tally: Tally::default(),
+        tally: EventTally::default(),
         hierarchy: Hierarchy {
             memory: books.memory,
             device,

@@ -22,5 +22,5 @@ pub use core_state::{Core, Lost, Room};
 pub use fresh::FreshBack;
 pub use log::{Back, Log, Turned};
 pub use resume::ResumeBack;
-pub use tally::Tally;
+pub use tally::EventTally;
 pub use turn::{Driven, Turn};

@@ -86,7 +86,7 @@ impl Log {
         self.turns.is_empty()
     }
 
-    /// The turn at a place, from 0.
+    /// The turn at a position, from 0.
     pub fn get(&self, at: u32) -> Option<&Turned>
         ensures { option_copied result ≡ slice_get self.now.turns at }
     {

@@ -7,13 +7,13 @@ ghost use Rattle.ff_model.specs.Legal.{opening_of};
 ghost use Rattle.ff_mount.specs.Over.{IsCacheOver};
 ghost use Rattle.ff_table.specs.Table.{with_born};
 ghost use Rattle.ff_core.specs.Resume.{CanResume, pages_held, resumed_core, resumed_device, resumed_table};
-ghost use Rattle.ff_core.specs.Tally.{no_tally};
+ghost use Rattle.ff_core.specs.EventTally.{no_tally};
 
 use crate::core_state::Room;
 use crate::hierarchy::Hierarchy;
 use crate::log::Log;
 use crate::state::State;
-use crate::tally::Tally;
+use crate::tally::EventTally;
 use ff_base::{Geometry, Marks, NoMemory, PageBuf, PageNo};
 use ff_cache::Cache;
 use ff_device::Device;
@@ -199,7 +199,7 @@ fn assemble<F: Flash, T: Tune, E: Pick>(
         history: made.history,
         events: from_event,
         log: made.log,
-        tally: Tally::default(),
+        tally: EventTally::default(),
         hierarchy: Hierarchy {
             memory: made.memory,
             device: made.device,

@@ -7,7 +7,7 @@ mod background;
 
 use crate::hierarchy::Hierarchy;
 use crate::log::Log;
-use crate::tally::Tally;
+use crate::tally::EventTally;
 use ff_base::{Geometry, LAST_EVENT};
 use ff_evict::Pick;
 use ff_flash::Flash;
@@ -27,7 +27,7 @@ pub struct State<F: Flash, T: Tune, E: Pick> {
     pub(crate) history: History,
     pub(crate) events: u64,
     pub(crate) log: Log,
-    pub(crate) tally: Tally,
+    pub(crate) tally: EventTally,
     pub(crate) hierarchy: Hierarchy<F, T, E>,
 }
 

@@ -1,6 +1,6 @@
 // What the events of a session did, counted.
 ghost use Rattle.std.specs.Prelude.{◌≡◌, ◌<◌, ◌+◌, ◌^◌};
-ghost use Rattle.ff_core.specs.Tally.{did_what, served_by, started_by};
+ghost use Rattle.ff_core.specs.EventTally.{did_what, served_by, started_by};
 
 use crate::action::Action;
 use ff_memory::{Side, What};
@@ -8,7 +8,7 @@ use ff_memory::{Side, What};
 /// What the events of a session did: served loads and stores by the side that served them, copied lines that landed or
 /// were dropped, promotions that began, and retreats that began or promotions that were turned back.
 #[derive(Clone, Copy, Debug, Default, PartialEq, Eq)]
-pub struct Tally {
+pub struct EventTally {
     pub device: u64,
     pub host: u64,
     pub landed: u64,
@@ -17,7 +17,7 @@ pub struct Tally {
     pub retreated: u64,
 }
 
-impl Tally {
+impl EventTally {
     // A call was served by this side.
     pub(crate) fn serve(&mut self, side: Side)
         requires { self.old.device + self.old.host < 2 ^ 63 }

@@ -10,7 +10,7 @@ use Rattle.ff_gc.specs.declared.collector.GcStep.{GcStep}
 use Rattle.ff_lines.specs.Works.{KeepsLines}
 use Rattle.ff_lines.specs.declared.device.Work.{Work}
 use Rattle.ff_lines.specs.declared.device.Work.TheVariants.{Ready, Stepped, Pinned, Failed, Off}
-use Rattle.ff_space.specs.BlockTable.{IsTableSound}
+use Rattle.ff_space.specs.BlockTable.{IsBlockTableSound}
 use Rattle.ff_store.proofs.Basics.{collected_same}
 use Rattle.ff_store.specs.Calls.{Collects, SameBytes}
 use Rattle.ff_store.specs.PageStore.{IsStoreSound, PageStoreView}
@@ -85,7 +85,7 @@ seal_turned Off old new sound cache store same s = stopped_turned old new s.0
 seal_turned Ready old new sound cache store same s = absurd s
 seal_turned (Pinned other) old new sound cache store same s = absurd s
 
-collect_turned : (result : Work) (old new : DeviceView) → IsStoreSound old.store → IsTableSound old.store.world.table
+collect_turned : (result : Work) (old new : DeviceView) → IsStoreSound old.store → IsBlockTableSound old.store.world.table
     → CallsOnce old.store (stop_of_work result) new.store → old.store.world.flash.on ≡ true → HasCollected old result new
     → Turned (parts_of old) (parts_of new)
 collect_turned result old new store table calls on c =
@@ -97,7 +97,7 @@ collect_turned result old new store table calls on c =
     })
 
 turned : (result : Work) (old new : DeviceView) → IsDeviceSound (parts_of old) → IsCacheSound old.cache
-    → IsStoreStateSound (seen_of old.store) → IsStoreSound old.store → IsTableSound old.store.world.table
+    → IsStoreStateSound (seen_of old.store) → IsStoreSound old.store → IsBlockTableSound old.store.world.table
     → CallsOnce old.store (stop_of_work result) new.store → IsCollectTurn old result new
     → Turned (parts_of old) (parts_of new)
 turned result old new device cache seen store table calls (turn_off down is same) =
@@ -111,7 +111,7 @@ turned result old new device cache seen store table calls (turn_idle on idle wan
     same_turned (parts_of old) (parts_of new) (ap parts_of same)
 
 pub turn_lines : (result : Work) (old new : DeviceView) → IsDeviceSound (parts_of old) → IsCacheSound old.cache
-    → IsStoreStateSound (seen_of old.store) → IsStoreSound old.store → IsTableSound old.store.world.table
+    → IsStoreStateSound (seen_of old.store) → IsStoreSound old.store → IsBlockTableSound old.store.world.table
     → CallsOnce old.store (stop_of_work result) new.store → IsCollectTurn old result new
     → old.store.world.flash.on ≡ true → KeepsLines (lines_in old) (lines_in new)
 turn_lines result old new device cache seen store table calls turn on =
@@ -121,7 +121,7 @@ turn_lines result old new device cache seen store table calls turn on =
     (powers_of old.store new.store (stop_of_work result) on calls)
 
 pub turn_resident : (result : Work) (old new : DeviceView) → IsDeviceSound (parts_of old) → IsCacheSound old.cache
-    → IsStoreStateSound (seen_of old.store) → IsStoreSound old.store → IsTableSound old.store.world.table
+    → IsStoreStateSound (seen_of old.store) → IsStoreSound old.store → IsBlockTableSound old.store.world.table
     → CallsOnce old.store (stop_of_work result) new.store → IsCollectTurn old result new
     → SameSet (is_resident (parts_of old)) (is_resident (parts_of new))
 turn_resident result old new device cache seen store table calls turn =

@@ -8,7 +8,7 @@ use Rattle.ff_base.specs.declared.numbers.PageNo.{PageNo}
 use Rattle.ff_flash.specs.Cells.{Cell, cell_at, cell_bytes}
 use Rattle.ff_gc.specs.World.{mapped_bytes, page_bytes}
 use Rattle.ff_lines.proofs.PageOverlaid.{length-blank_page}
-use Rattle.ff_map.specs.PageMap.{IsMapSound, mapping_of}
+use Rattle.ff_map.specs.PageMap.{IsPageMapSound, mapping_of}
 use Rattle.ff_map.specs.declared.places.Mapping.{Mapping}
 use Rattle.ff_store.proofs.Remaining.{left_most}
 use Rattle.ff_store.specs.Calls.{SameBytes}
@@ -50,7 +50,7 @@ flush_within cells pages (Some p) flush within is =
     subst (λ (f : PendingFlush). f.page < pages) same (within p refl)
 
 -- what every store keeps
-pub store_seen : (s : PageStoreView) → IsStoreSound s → IsMapSound s.world.places → IsStoreStateSound (seen_of s)
+pub store_seen : (s : PageStoreView) → IsStoreSound s → IsPageMapSound s.world.places → IsStoreStateSound (seen_of s)
 store_seen s sound map_sound =
     let size = length-pages s in
     let few = map_sound.pages.high in

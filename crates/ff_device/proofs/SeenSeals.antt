@@ -14,7 +14,7 @@ use Rattle.ff_flash.specs.declared.flash.FlashStop.TheVariants.{Failed, Off}
 use Rattle.ff_flash.specs.declared.injected.Injected.TheVariants.{Cut}
 use Rattle.ff_gc.proofs.Retaining.{cell_at-set}
 use Rattle.ff_gc.specs.World.{mapped_bytes}
-use Rattle.ff_map.specs.PageMap.{MapView}
+use Rattle.ff_map.specs.PageMap.{PageMapView}
 use Rattle.ff_map.specs.declared.places.Mapping.{Mapping}
 use Rattle.ff_store.proofs.Settling.{pending_in}
 use Rattle.ff_store.specs.Calls.{IsPlaced, MatchSealed, SameBytes, SealsPage, new_mapping}
@@ -41,7 +41,7 @@ placed_pages old new page within p =
     let bytes : List ℕ = cell_bytes (cell_at old.world.flash.cells p.pending.at.0) in
     let pages = old.world.places.pages in
     let there : new.world.places.pages ≡ set pages page.0 (Some (new_mapping p.pending)) =
-    ap (λ (m : MapView). m.pages) p.places in
+    ap (λ (m : PageMapView). m.pages) p.places in
     let size : length new.world.places.pages ≡ length pages =
     ap length there ∙ length-set pages page.0 (Some (new_mapping p.pending)) in
     let own : bytes_at new.world.flash.cells (Some (new_mapping p.pending)) ≡ Some bytes =

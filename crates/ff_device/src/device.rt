@@ -1,8 +1,8 @@
 // A device and its parts.
 ghost use Rattle.std.specs.Prelude.{◌≡◌, MatchResult};
 ghost use Rattle.ff_flash.specs.FlashState.{powered_off};
-ghost use Rattle.ff_space.specs.BlockTable.{IsTableSound};
-ghost use Rattle.ff_map.specs.PageMap.{IsMapSound};
+ghost use Rattle.ff_space.specs.BlockTable.{IsBlockTableSound};
+ghost use Rattle.ff_map.specs.PageMap.{IsPageMapSound};
 ghost use Rattle.ff_store.specs.PageStore.{IsStoreSound};
 ghost use Rattle.ff_cache.specs.Cache.{IsCacheSound};
 ghost use Rattle.ff_window.specs.Window.{IsWindowSound};
@@ -124,8 +124,8 @@ impl<F: Flash> Device<F> {
     pub fn known(&self)
         ensures device { IsDeviceSound (parts_of self.now) }
         ensures store { IsStoreSound self.now.store }
-        ensures table { IsTableSound self.now.store.world.table }
-        ensures map { IsMapSound self.now.store.world.places }
+        ensures table { IsBlockTableSound self.now.store.world.table }
+        ensures map { IsPageMapSound self.now.store.world.places }
         ensures cache { IsCacheSound self.now.cache }
         ensures window { IsWindowSound self.now.window }
     {

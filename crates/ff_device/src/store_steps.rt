@@ -2,8 +2,8 @@
 ghost use Rattle.std.specs.Prelude.{◌≡◌, ◌<◌, ◌≤◌, ◌^◌, OnOk, IsSome, None, false, length};
 ghost use Rattle.ff_flash.specs.Injected.{stop_of};
 ghost use Rattle.ff_lines.specs.PageSets.{count_below, with_page};
-ghost use Rattle.ff_map.specs.PageMap.{IsMapSound};
-ghost use Rattle.ff_space.specs.BlockTable.{IsTableSound};
+ghost use Rattle.ff_map.specs.PageMap.{IsPageMapSound};
+ghost use Rattle.ff_space.specs.BlockTable.{IsBlockTableSound};
 ghost use Rattle.ff_store.specs.PageStore.{IsStoreSound};
 ghost use Rattle.ff_device.specs.StoreState.{is_stored, seen_of, stored_bytes, IsStoreStateSound};
 ghost use Rattle.ff_device.specs.StoreSteps.{CallsOnce, MakesFlushStep, SealsFlush};
@@ -17,8 +17,8 @@ use ff_store::{FlushStep, PageStore};
 pub fn store_known<F: Flash>(store: &PageStore<F>)
     ensures seen { IsStoreStateSound (seen_of store.now) }
     ensures store { IsStoreSound store.now }
-    ensures table { IsTableSound store.now.world.table }
-    ensures map { IsMapSound store.now.world.places }
+    ensures table { IsBlockTableSound store.now.world.table }
+    ensures map { IsPageMapSound store.now.world.places }
 {
     store.known();
 }

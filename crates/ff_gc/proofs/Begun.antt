@@ -17,10 +17,10 @@ use Rattle.ff_base.specs.declared.numbers.Block.{Block}
 use Rattle.ff_base.specs.declared.numbers.PageNo.{PageNo}
 use Rattle.ff_space.proofs.Changed.{block_at-changed_at}
 use Rattle.ff_space.specs.Blocks.{IsBlockSound, StateFits, after_hold}
-use Rattle.ff_space.specs.BlockTable.{IsInState, IsTableSound, block_at}
+use Rattle.ff_space.specs.BlockTable.{IsInState, IsBlockTableSound, block_at}
 use Rattle.ff_space.specs.declared.block.BlockEntry.{BlockEntry}
 use Rattle.ff_space.specs.declared.block.BlockState.TheVariants.{Erased, Full, Held, Waiting}
-use Rattle.ff_map.specs.PageMap.{MapView, mapping_of}
+use Rattle.ff_map.specs.PageMap.{PageMapView, mapping_of}
 use Rattle.ff_map.specs.declared.places.Mapping.{Mapping}
 use Rattle.ff_gc.proofs.Counting.{count_apart, count_none}
 use Rattle.ff_gc.proofs.Keeping.{ready_changed}
@@ -70,14 +70,14 @@ among_in per block n (Some m) is =
     ((and_parts (eqb (m.at.0 / per) block) (ltb (m.at.0 % per) n) is).0, refl)
 
 -- a page of the block that isn't mapped
-record HasUnmapped (per block n : ℕ) (places : MapView) : Type 0 where
+record HasUnmapped (per block n : ℕ) (places : PageMapView) : Type 0 where
   pub place : ℕ
   pub small : place < n
   pub unmapped : (page : PageNo) (m : Mapping) → mapping_of places page ≡ Some m
       → m.at.0 ≢ block * per + place
 
 -- of the first pages of the block one isn't mapped, or as many are counted
-find_unmapped : (per block n : ℕ) (places : MapView) → n ≤ per
+find_unmapped : (per block n : ℕ) (places : PageMapView) → n ≤ per
     → HasUnmapped per block n places
     ⊎ (n ≤ count_by (λ (x : Option Mapping). is_among per block n x) places.pages)
 find_unmapped per block zero places most = inr (omega arith)
@@ -109,7 +109,7 @@ find_unmapped per block (suc n) places most = elim (find_unmapped per block n pl
 ]
 
 -- a block with fewer mapped pages than pages has one that isn't mapped
-stale_of : (per : ℕ) (places : MapView) (victim into : Block) → mapped_in per places victim.0 < per
+stale_of : (per : ℕ) (places : PageMapView) (victim into : Block) → mapped_in per places victim.0 < per
     → HasStale per [] places (job_of victim into)
 stale_of per places victim into fewer = elim (find_unmapped per victim.0 per places (omega arith)) [
   | inl found ↦ record {
@@ -130,7 +130,7 @@ pub erased_next : (per : ℕ) (entry : BlockEntry) → IsBlockSound per entry �
     → entry.next ≡ 0
 erased_next per entry sound is = subst (λ s. StateFits per s entry.next entry.mapped) is sound.fits
 
-pub begun_ready : (w : World) (victim into : Block) → IsTableSound w.table → IsCollectorReady w
+pub begun_ready : (w : World) (victim into : Block) → IsBlockTableSound w.table → IsCollectorReady w
     → w.gc.phase ≡ Idle → IsInState w.table.blocks Full victim.0
     → IsInState w.table.blocks Erased into.0 → (block_at w.table victim.0).mapped < w.gc.per_block
     → IsCollectorReady (begun_with w (job_of victim into))

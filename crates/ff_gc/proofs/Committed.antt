@@ -12,7 +12,7 @@ use Rattle.ff_space.proofs.Changed.{
   length-after_collection,
 }
 use Rattle.ff_space.specs.Blocks.{state_by_next}
-use Rattle.ff_space.specs.BlockTable.{TableView, after_collection, block_at}
+use Rattle.ff_space.specs.BlockTable.{BlockTableView, after_collection, block_at}
 use Rattle.ff_space.specs.declared.block.BlockEntry.{BlockEntry}
 use Rattle.ff_space.specs.declared.block.BlockState.TheVariants.{Held, Waiting}
 use Rattle.ff_map.proofs.Lookups.{version_of-switched}
@@ -88,10 +88,10 @@ pub commits_kept : (old new : World) (job : Job) (result : Result GcStep FlashSt
 commits_kept old new job result ready c r =
     let switched = r.places in
     let blocks : length new.table.blocks ≡ length old.table.blocks =
-    ap (λ (t : TableView). length t.blocks) r.table ∙ length-after_collection old.table job.victim.0 job.into.0 in
+    ap (λ (t : BlockTableView). length t.blocks) r.table ∙ length-after_collection old.table job.victim.0 job.into.0 in
     let per : new.gc.per_block ≡ old.gc.per_block = ap (λ (g : CollectorView). g.per_block) r.gc in
     let cells : new.flash.cells ≡ old.flash.cells = ap (λ (f : FlashState). f.cells) r.flash in
-    let table : new.table.per_block ≡ old.table.per_block = ap (λ (t : TableView). t.per_block) r.table in
+    let table : new.table.per_block ≡ old.table.per_block = ap (λ (t : BlockTableView). t.per_block) r.table in
     let gc : CollectorView = record old.gc { phase = Erasing job.victim; moves = [] } in
     let safe : IsSafe None (length old.table.blocks) old.gc.per_block old.flash.operations old.flash.cells new.places =
     record {

@@ -14,10 +14,10 @@ use Rattle.ff_space.proofs.Changed.{
   length-changed_at,
 }
 use Rattle.ff_space.specs.Blocks.{erased_block, waiting}
-use Rattle.ff_space.specs.BlockTable.{IsInState, TableView, block_at, changed_at}
+use Rattle.ff_space.specs.BlockTable.{IsInState, BlockTableView, block_at, changed_at}
 use Rattle.ff_space.specs.declared.block.BlockEntry.{BlockEntry}
 use Rattle.ff_space.specs.declared.block.BlockState.TheVariants.{Erased, Full, Held, Waiting}
-use Rattle.ff_map.specs.PageMap.{MapView, mapping_of}
+use Rattle.ff_map.specs.PageMap.{PageMapView, mapping_of}
 use Rattle.ff_map.specs.declared.places.Mapping.{Mapping}
 use Rattle.ff_gc.proofs.Counting.{count_none}
 use Rattle.ff_gc.proofs.Keeping.{not_off, operated, ready_changed}
@@ -45,7 +45,7 @@ use Rattle.ff_gc.specs.declared.phase.Original.{Original}
 use Rattle.ff_gc.specs.declared.phase.Phase.TheVariants.{Aborting, Erasing, Idle, Programming}
 
 -- where no mapped page of a block is counted, none is mapped there
-pub no_page_of : (per block : ℕ) (places : MapView) → mapped_in per places block ≡ 0
+pub no_page_of : (per block : ℕ) (places : PageMapView) → mapped_in per places block ≡ 0
     → HasNoPage per places block
 no_page_of per block places none page m is lies =
     let fails = count_none (λ (x : Option Mapping). is_in per block x) places.pages page.0 None none refl in
@@ -53,13 +53,13 @@ no_page_of per block places none page m is lies =
     ap (λ (x : Option Mapping). is_in per block x) is ∙ eq-eqb (m.at.0 / per) block lies in
     both_ways (is_in per block (mapping_of places page)) fails passes
 
-pub emptying_no_page : (per : ℕ) (table : TableView) (cells : List Cell) (places : MapView) (block : Block)
+pub emptying_no_page : (per : ℕ) (table : BlockTableView) (cells : List Cell) (places : PageMapView) (block : Block)
     → IsTabled per table cells places → IsEmptying table block → HasNoPage per places block.0
 emptying_no_page per table cells places block t e =
     no_page_of per block.0 places (sym (t.counted block.0 e.waits.is.in_range) ∙ e.unmapped)
 
 -- the table after the erase
-erased_tabled : (per : ℕ) (table : TableView) (cells new : List Cell) (places : MapView) (block : Block)
+erased_tabled : (per : ℕ) (table : BlockTableView) (cells new : List Cell) (places : PageMapView) (block : Block)
     → IsEmptying table block → length new ≡ length cells
     → ((a : ℕ) → a / per ≡ block.0 → cell_at new a ≡ erased)
     → ((a : ℕ) → a / per ≢ block.0 → cell_at new a ≡ cell_at cells a)
@@ -107,8 +107,8 @@ erases_kept old new block ends (Ok step) ready e r =
     operated old new Erase None ready
     (retains_erased old.flash.per_block block.0 old.flash.cells new.flash.cells (Ok tt) old.places (rw flash_per none) r.cells)
     r.operation (ap (λ (g : CollectorView). g.per_block) r.gc)
-    (ap (λ (t : TableView). length t.blocks) r.table ∙ length-changed_at old.table block.0 (λ _. erased_block))
-    (ap (λ (t : TableView). t.per_block) r.table) r.places
+    (ap (λ (t : BlockTableView). length t.blocks) r.table ∙ length-changed_at old.table block.0 (λ _. erased_block))
+    (ap (λ (t : BlockTableView). t.per_block) r.table) r.places
     (λ on. rw (r.gc, r.table) live)
 erases_kept old new block ends (Err Failed) ready e r =
     let none = emptying_no_page old.gc.per_block old.table old.flash.cells old.places block ready.live.tabled e in
@@ -117,16 +117,16 @@ erases_kept old new block ends (Err Failed) ready e r =
     operated old new Erase (Some Failed) ready
     (retains_erased old.flash.per_block block.0 old.flash.cells new.flash.cells (Err Failed) old.places
     (rw ready.fits.per_block none) r.cells)
-    r.operation (ap (λ (g : CollectorView). g.per_block) r.gc) (ap (λ (t : TableView). length t.blocks) r.table)
-    (ap (λ (t : TableView). t.per_block) r.table) r.places
+    r.operation (ap (λ (g : CollectorView). g.per_block) r.gc) (ap (λ (t : BlockTableView). length t.blocks) r.table)
+    (ap (λ (t : BlockTableView). t.per_block) r.table) r.places
     (λ on. rw (r.gc, same, r.table) ready.live)
 erases_kept old new block ends (Err Off) ready e r =
     let none = emptying_no_page old.gc.per_block old.table old.flash.cells old.places block ready.live.tabled e in
     operated old new Erase (Some Off) ready
     (retains_erased old.flash.per_block block.0 old.flash.cells new.flash.cells (Err Off) old.places
     (rw ready.fits.per_block none) r.cells)
-    r.operation (ap (λ (g : CollectorView). g.per_block) r.gc) (ap (λ (t : TableView). length t.blocks) r.table)
-    (ap (λ (t : TableView). t.per_block) r.table) r.places
+    r.operation (ap (λ (g : CollectorView). g.per_block) r.gc) (ap (λ (t : BlockTableView). length t.blocks) r.table)
+    (ap (λ (t : BlockTableView). t.per_block) r.table) r.places
     (λ on. absurd (not_off old.flash new.flash r.operation.flash on))
 
 waiting_keeps : (entry : BlockEntry) → KeepsPages entry (waiting entry)
@@ -136,7 +136,7 @@ waiting_keeps entry = record {
   next = λ other. absurd (other refl);
 }
 
-waiting_unmapped : (table : TableView) (block : ℕ) → block < length table.blocks
+waiting_unmapped : (table : BlockTableView) (block : ℕ) → block < length table.blocks
     → (block_at table block).mapped ≡ 0 → (block_at (changed_at table block waiting) block).mapped ≡ 0
 waiting_unmapped table block within none =
     ap (λ (e : BlockEntry). e.mapped) (block_at-changed_at table block waiting within) ∙ none

@@ -16,10 +16,10 @@ use Rattle.ff_space.proofs.Changed.{
   length-changed_at,
 }
 use Rattle.ff_space.specs.Blocks.{advanced, after_hold, erased_block, is_erased, state_by_next, waiting}
-use Rattle.ff_space.specs.BlockTable.{IsTableSound, TableView, after_collection, block_at, changed_at, erased_count}
+use Rattle.ff_space.specs.BlockTable.{IsBlockTableSound, BlockTableView, after_collection, block_at, changed_at, erased_count}
 use Rattle.ff_space.specs.declared.block.BlockEntry.{BlockEntry}
 use Rattle.ff_space.specs.declared.block.BlockState.TheVariants.{Erased, Full, Open}
-use Rattle.ff_map.specs.PageMap.{MapView}
+use Rattle.ff_map.specs.PageMap.{PageMapView}
 use Rattle.ff_map.specs.declared.places.Move.{Move}
 use Rattle.ff_gc.proofs.Begun.{begun_ready, erased_next}
 use Rattle.ff_gc.proofs.Emptied.{emptying_is}
@@ -40,7 +40,7 @@ use Rattle.ff_gc.specs.declared.phase.Phase.{Phase}
 use Rattle.ff_gc.specs.declared.phase.Phase.TheVariants.{Idle, Programming, Reading, Sealing, Commit, Erasing, Aborting}
 
 -- what is seen of a victim is before the page that is next
-seen_before : (per : ℕ) (places : MapView) (job : Job) (original : Original) → IsNextOriginal per places job original
+seen_before : (per : ℕ) (places : PageMapView) (job : Job) (original : Original) → IsNextOriginal per places job original
     → job.seen ≤ original.from.0 % per
 seen_before per places job original next =
     let is = place_is per original.from.0 job.victim.0 next.from_in in let unseen = next.unseen in omega arith
@@ -69,7 +69,7 @@ programs_fall old new job original step (programs small r) =
 programs_fall old new job original step (full whole r) =
     let none_left = erases_fall (given_up old job) new job.into Aborted step r in omega arith
 
-after_falls : (per : ℕ) (places : MapView) (job : Job) (original : Original) (phase : Phase) → 0 < per
+after_falls : (per : ℕ) (places : PageMapView) (job : Job) (original : Original) (phase : Phase) → 0 < per
     → IsAfter per places (past per job original) phase
     → left_in per phase < 3 * (per - original.from.0 % per)
 after_falls per places job original (Reading next) some after =
@@ -112,14 +112,14 @@ pub steps_fall : (old new : World) (step : GcStep) → IsCollectorReady old → 
 steps_fall old new step ready other r = step_falls old.gc.phase old new step ready.fits.some other r
 
 -- there are fewer copies than pages of a block
-copies_few : (per : ℕ) (moves : List Move) (places : MapView) (job : Job) → HasStale per moves places job
+copies_few : (per : ℕ) (moves : List Move) (places : PageMapView) (job : Job) → HasStale per moves places job
     → job.seen ≤ per → length moves < per
 copies_few per moves places job stale seen = elim (cases_lt stale.place job.seen) [
   | inl before ↦ (let fewer = stale.fewer before in omega arith)
   | inr behind ↦ (let few = stale.few in let small = stale.small in omega arith)
 ]
 
-few_beside : (per : ℕ) (moves : List Move) (places : MapView) (job : Job) (from : Ppn)
+few_beside : (per : ℕ) (moves : List Move) (places : PageMapView) (job : Job) (from : Ppn)
     → HasStaleBeside per moves places job from → job.seen ≤ per → length moves < per
 few_beside per moves places job from stale seen = elim (cases_lt stale.place job.seen) [
   | inl before ↦ (let fewer = stale.fewer before in omega arith)
@@ -127,7 +127,7 @@ few_beside per moves places job from stale seen = elim (cases_lt stale.place job
 ]
 
 -- the erase of the waiting block
-erased_ends : (table : TableView) (block : Block) → IsEmptying table block
+erased_ends : (table : BlockTableView) (block : Block) → IsEmptying table block
     → 0 < open_count table.blocks + erased_count table.blocks
     → 0 < open_count (changed_at table block.0 (λ _. erased_block)).blocks
     + (erased_count (changed_at table block.0 (λ _. erased_block)).blocks - 1)
@@ -205,7 +205,7 @@ programs_end old new job original step ready is (programs small r) same =
     let phase : new.gc.phase ≡ Sealing job original r.at = ap (λ (g : CollectorView). g.phase) r.gc in
     let moves : new.gc.moves ≡ old.gc.moves = ap (λ (g : CollectorView). g.moves) r.gc in
     let next : (block_at new.table job.into.0).next ≡ (block_at old.table job.into.0).next + 1 =
-    ap (λ (t : TableView). (block_at t job.into.0).next) r.table
+    ap (λ (t : BlockTableView). (block_at t job.into.0).next) r.table
     ∙ ap (λ (e : BlockEntry). e.next) (block_at-changed_at old.table job.into.0 (advanced old.table.per_block) p.copying.blocks.held.is.in_range) in
     rw (phase, moves) (omega arith)
 programs_end old new job original step ready is (full whole r) same =
@@ -213,7 +213,7 @@ programs_end old new job original step ready is (full whole r) same =
     let few = few_beside old.gc.per_block old.gc.moves old.places job original.from p.stale p.copying.seen in
     absurd (omega arith)
 
-after_ends : (per : ℕ) (places : MapView) (job next : Job) (moves : List Move) (table : TableView) (phase : Phase)
+after_ends : (per : ℕ) (places : PageMapView) (job next : Job) (moves : List Move) (table : BlockTableView) (phase : Phase)
     → IsAfter per places next phase → next.into.0 ≡ job.into.0
     → (block_at table job.into.0).next ≡ length moves → IsEndingAt moves table phase
 after_ends per places job next moves table (Reading j) after into same =
@@ -236,12 +236,12 @@ seals_end old new job original at step r same =
     let longer = length_push old.gc.moves (move_to original at) in
     let count : length new.gc.moves ≡ length old.gc.moves + 1 = ap (λ (ms : List Move). length ms) moves ∙ longer in
     let next : (block_at new.table job.into.0).next ≡ (block_at old.table job.into.0).next =
-    ap (λ (t : TableView). (block_at t job.into.0).next) r.table in
+    ap (λ (t : BlockTableView). (block_at t job.into.0).next) r.table in
     after_ends old.gc.per_block old.places job (past old.gc.per_block job original) new.gc.moves new.table new.gc.phase
     r.gc.phase refl (omega arith)
 
 -- a collection that begins
-begins_end : (old new : World) (step : GcStep) → IsTableSound old.table → IsCollectorReady old → old.gc.phase ≡ Idle
+begins_end : (old new : World) (step : GcStep) → IsBlockTableSound old.table → IsCollectorReady old → old.gc.phase ≡ Idle
     → step ≢ IdleStep → Begins old (Ok step) new → IsEnding new.gc new.table
 begins_end old new step sound ready is other (idle all same same_world) =
     absurd (other (let e : step ≡ IdleStep = cc in e))
@@ -269,7 +269,7 @@ begins_end old new step sound ready is other (mapped victim into v more least r)
     ap (λ (e : BlockEntry). e.next) (block_at-changed_at old.table into.0 change least.has.in_range) ∙ next in
     reads_end (begun_with old (job_of victim into)) new (job_of victim into) step begun refl r same
 
-step_ends : (phase : Phase) (old new : World) (step : GcStep) → IsTableSound old.table → IsCollectorReady old
+step_ends : (phase : Phase) (old new : World) (step : GcStep) → IsBlockTableSound old.table → IsCollectorReady old
     → old.gc.phase ≡ phase → step ≢ IdleStep → IsStepAt phase old (Ok step) new
     → (phase ≡ Idle) ⊎ IsEndingAt old.gc.moves old.table phase → IsEnding new.gc new.table
 step_ends Idle old new step sound ready is other r ending = begins_end old new step sound ready is other r
@@ -292,6 +292,6 @@ step_ends (Aborting block) old new step sound ready is other r (inr some) =
     erases_end old new block Aborted step (at_phase old (Aborting block) ready is) r some
 
 -- a collection that is begun, or ends with a page to program, ends with one after a step that worked
-pub steps_end : (old new : World) (step : GcStep) → IsTableSound old.table → IsCollectorReady old → step ≢ IdleStep
+pub steps_end : (old new : World) (step : GcStep) → IsBlockTableSound old.table → IsCollectorReady old → step ≢ IdleStep
     → IsStep old (Ok step) new → (old.gc.phase ≡ Idle) ⊎ IsEnding old.gc old.table → IsEnding new.gc new.table
 steps_end old new step sound ready other r ending = step_ends old.gc.phase old new step sound ready refl other r ending

@@ -7,7 +7,7 @@ use Rattle.ff_flash.specs.declared.flash.FlashStop.TheVariants.{Off}
 use Rattle.ff_space.proofs.Changed.{length-changed_at}
 use Rattle.ff_space.specs.BlockTable.{changed_at}
 use Rattle.ff_space.specs.declared.block.BlockEntry.{BlockEntry}
-use Rattle.ff_map.specs.PageMap.{MapView, mapping_of, version_of}
+use Rattle.ff_map.specs.PageMap.{PageMapView, mapping_of, version_of}
 use Rattle.ff_gc.proofs.Retaining.{Retains, bytes_retained, safe_retained}
 use Rattle.ff_gc.specs.Collector.{CollectorView}
 use Rattle.ff_gc.specs.Running.{IsLive}
@@ -24,11 +24,11 @@ pub operated : (old new : World) (kind : OperationKind) (stop : Option FlashStop
 operated old new kind stop ready r made per blocks table places live = record {
   same = record {
     bytes = λ page.
-        ap (λ (p : MapView). mapped_bytes new.flash.cells (mapping_of p page)) places
+        ap (λ (p : PageMapView). mapped_bytes new.flash.cells (mapping_of p page)) places
         ∙ bytes_retained old.places old.flash.cells new.flash.cells r page (mapping_of old.places page) refl;
-    versions = λ page. ap (λ (p : MapView). version_of p page) places;
-    next = ap (λ (p : MapView). p.next_version) places;
-    pages = ap (λ (p : MapView). length p.pages) places;
+    versions = λ page. ap (λ (p : PageMapView). version_of p page) places;
+    next = ap (λ (p : PageMapView). p.next_version) places;
+    pages = ap (λ (p : PageMapView). length p.pages) places;
     blocks = blocks;
     per_block = per;
   };

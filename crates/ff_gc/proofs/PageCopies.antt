@@ -12,11 +12,11 @@ use Rattle.ff_flash.specs.declared.flash.FlashStop.TheVariants.{Failed, Off}
 use Rattle.ff_flash.specs.declared.spare.Spare.{Spare}
 use Rattle.ff_space.proofs.Changed.{block_at-changed_at, length-changed_at}
 use Rattle.ff_space.specs.Blocks.{advanced, raised_state}
-use Rattle.ff_space.specs.BlockTable.{TableView, block_at, changed_at}
+use Rattle.ff_space.specs.BlockTable.{BlockTableView, block_at, changed_at}
 use Rattle.ff_space.specs.declared.block.BlockEntry.{BlockEntry}
 use Rattle.ff_space.specs.declared.block.BlockState.{BlockState}
 use Rattle.ff_space.specs.declared.block.BlockState.TheVariants.{Full, Held, Waiting}
-use Rattle.ff_map.specs.PageMap.{MapView, mapping_of}
+use Rattle.ff_map.specs.PageMap.{PageMapView, mapping_of}
 use Rattle.ff_map.specs.declared.places.Mapping.{Mapping}
 use Rattle.ff_map.specs.declared.places.Move.{Move}
 use Rattle.ff_gc.proofs.Keeping.{not_off, operated}
@@ -45,20 +45,20 @@ pub at_phase : (w : World) (phase : Phase) → IsCollectorReady w → w.gc.phase
 at_phase w phase ready is = subst (λ p. IsAt w.gc w.flash.cells w.table w.places p) is ready.live.phase
 
 -- the cell of the next page
-pub next_cell : (per : ℕ) (cells : List Cell) (places : MapView) (job : Job) (original : Original)
+pub next_cell : (per : ℕ) (cells : List Cell) (places : PageMapView) (job : Job) (original : Original)
     → AreMapped None cells places → IsNextOriginal per places job original
     → cell_at cells original.from.0 ≡ sealed (cell_bytes (cell_at cells original.from.0)) (spare_in original)
 next_cell per cells places job original s next =
     s.placed original.page (record { at = original.from; version = original.version }) next.is
 
-pub next_sealed : (per : ℕ) (cells : List Cell) (places : MapView) (job : Job) (original : Original)
+pub next_sealed : (per : ℕ) (cells : List Cell) (places : PageMapView) (job : Job) (original : Original)
     → AreMapped None cells places → IsNextOriginal per places job original
     → IsSealed (cell_at cells original.from.0)
 next_sealed per cells places job original s next = rw (next_cell per cells places job original s next) tt
 
 -- a page that is read is in hand
-in_hand : (per : ℕ) (moves : List Move) (bytes : List ℕ) (cells : List Cell) (table : TableView)
-    (places : MapView) (job : Job) (original : Original)
+in_hand : (per : ℕ) (moves : List Move) (bytes : List ℕ) (cells : List Cell) (table : BlockTableView)
+    (places : PageMapView) (job : Job) (original : Original)
     → IsReading per moves cells table places job → AreMapped None cells places
     → IsNextOriginal per places job original → bytes ≡ cell_bytes (cell_at cells original.from.0)
     → IsInHand per moves bytes cells places job original
@@ -80,7 +80,7 @@ in_hand per moves bytes cells table places job original reading s next is = reco
   next = next.next;
 }
 
-stale_beside : (per : ℕ) (moves : List Move) (places : MapView) (job : Job) (original : Original)
+stale_beside : (per : ℕ) (moves : List Move) (places : PageMapView) (job : Job) (original : Original)
     → HasStale per moves places job → IsNextOriginal per places job original
     → HasStaleBeside per moves places job original.from
 stale_beside per moves places job original stale next = record {
@@ -110,24 +110,24 @@ reads_kept old new job original (Ok step) ready phase next r =
       };
     } in
     operated old new Read None ready (retains_same old.places old.flash.cells new.flash.cells r.cells.1) r.operation
-    (ap (λ (g : CollectorView). g.per_block) r.gc) (ap (λ (t : TableView). length t.blocks) r.table)
-    (ap (λ (t : TableView). t.per_block) r.table) r.places
+    (ap (λ (g : CollectorView). g.per_block) r.gc) (ap (λ (t : BlockTableView). length t.blocks) r.table)
+    (ap (λ (t : BlockTableView). t.per_block) r.table) r.places
     (λ on. rw (r.gc, r.cells.1, r.table) live)
 reads_kept old new job original (Err stop) ready phase next r =
     operated old new Read (Some stop) ready (retains_same old.places old.flash.cells new.flash.cells r.cells.1)
-    r.operation (ap (λ (g : CollectorView). g.per_block) r.gc) (ap (λ (t : TableView). length t.blocks) r.table)
-    (ap (λ (t : TableView). t.per_block) r.table) r.places
+    r.operation (ap (λ (g : CollectorView). g.per_block) r.gc) (ap (λ (t : BlockTableView). length t.blocks) r.table)
+    (ap (λ (t : BlockTableView). t.per_block) r.table) r.places
     (λ on. rw (r.gc, r.cells.1, r.table) ready.live)
 
 -- the two blocks of a collection are two
-pub victim_apart : (table : TableView) (job : Job) → AreBlocks table job → job.victim.0 ≢ job.into.0
+pub victim_apart : (table : BlockTableView) (job : Job) → AreBlocks table job → job.victim.0 ≢ job.into.0
 victim_apart table job b same =
     let states : Full ≡ Held =
     sym b.full.state ∙ ap (λ n. (block_at table n).state) same ∙ b.held.is.state in
     absurd (cc)
 
 -- the blank page at the write place of a block
-pub write_place_blank : (per : ℕ) (table : TableView) (cells : List Cell) (places : MapView)
+pub write_place_blank : (per : ℕ) (table : BlockTableView) (cells : List Cell) (places : PageMapView)
     (block : ℕ) → IsTabled per table cells places → length cells ≡ length table.blocks * per
     → block < length table.blocks → (block_at table block).next < per
     → (block_at table block).state ≢ Waiting
@@ -151,7 +151,7 @@ advanced_keeps per entry held = record {
   next = λ _. omega arith;
 }
 
-blocks_advanced : (table : TableView) (job : Job) → AreBlocks table job
+blocks_advanced : (table : BlockTableView) (job : Job) → AreBlocks table job
     → AreBlocks (changed_at table job.into.0 (advanced table.per_block)) job
 blocks_advanced table job b =
     let per = table.per_block in
@@ -171,7 +171,7 @@ abbrev pub KeepsSealed : List Cell → List Cell → Type 0
 KeepsSealed old new = (a : ℕ) (x : List ℕ) (spare : Spare) → cell_at old a ≡ sealed x spare
     → cell_at new a ≡ sealed x spare
 
-pub copies_kept : (per : ℕ) (moves : List Move) (cells new : List Cell) (places : MapView) (job : Job)
+pub copies_kept : (per : ℕ) (moves : List Move) (cells new : List Cell) (places : PageMapView) (job : Job)
     → KeepsSealed cells new → AreCopies per moves cells places job
     → AreCopies per moves new places job
 copies_kept per moves cells new places job kept c = record {
@@ -193,7 +193,7 @@ copies_kept per moves cells new places job kept c = record {
 }
 
 pub hand_kept : (per : ℕ) (moves : List Move) (bytes : List ℕ) (cells new : List Cell)
-    (places : MapView) (job : Job) (original : Original) → KeepsSealed cells new
+    (places : PageMapView) (job : Job) (original : Original) → KeepsSealed cells new
     → IsInHand per moves bytes cells places job original
     → IsInHand per moves bytes new places job original
 hand_kept per moves bytes cells new places job original kept h = record {
@@ -207,7 +207,7 @@ hand_kept per moves bytes cells new places job original kept h = record {
 
 -- the collection after a program into the destination
 programming_after : (per : ℕ) (moves : List Move) (bytes : List ℕ) (cells new : List Cell)
-    (table : TableView) (places : MapView) (job : Job) (original : Original)
+    (table : BlockTableView) (places : PageMapView) (job : Job) (original : Original)
     → KeepsSealed cells new → IsProgramming per moves bytes cells table places job original
     → IsProgramming per moves bytes new (changed_at table job.into.0 (advanced table.per_block)) places job original
 programming_after per moves bytes cells new table places job original kept p =
@@ -300,8 +300,8 @@ programs_kept old new job original (Ok step) ready phase small r =
     (retains_programmed old.flash.cells new.flash.cells r.at.0 old.gc.bytes (spare_in original) (Ok tt) old.places
     place.blank ready.safe.mapped r.cells)
     r.operation (ap (λ (g : CollectorView). g.per_block) r.gc)
-    (ap (λ (t : TableView). length t.blocks) r.table ∙ length-changed_at old.table job.into.0 (advanced old.table.per_block))
-    (ap (λ (t : TableView). t.per_block) r.table) r.places
+    (ap (λ (t : BlockTableView). length t.blocks) r.table ∙ length-changed_at old.table job.into.0 (advanced old.table.per_block))
+    (ap (λ (t : BlockTableView). t.per_block) r.table) r.places
     (λ on. rw (r.gc, r.table) live)
 programs_kept old new job original (Err Failed) ready phase small r =
     let p = at_phase old (Programming job original) ready phase in
@@ -320,8 +320,8 @@ programs_kept old new job original (Err Failed) ready phase small r =
     (retains_programmed old.flash.cells new.flash.cells r.at.0 old.gc.bytes (spare_in original) (Err Failed) old.places
     place.blank ready.safe.mapped r.cells)
     r.operation (ap (λ (g : CollectorView). g.per_block) r.gc)
-    (ap (λ (t : TableView). length t.blocks) r.table ∙ length-changed_at old.table job.into.0 (advanced old.table.per_block))
-    (ap (λ (t : TableView). t.per_block) r.table) r.places
+    (ap (λ (t : BlockTableView). length t.blocks) r.table ∙ length-changed_at old.table job.into.0 (advanced old.table.per_block))
+    (ap (λ (t : BlockTableView). t.per_block) r.table) r.places
     (λ on. rw (r.gc, r.table) live)
 programs_kept old new job original (Err Off) ready phase small r =
     let p = at_phase old (Programming job original) ready phase in
@@ -330,6 +330,6 @@ programs_kept old new job original (Err Off) ready phase small r =
     (retains_programmed old.flash.cells new.flash.cells r.at.0 old.gc.bytes (spare_in original) (Err Off) old.places
     place.blank ready.safe.mapped r.cells)
     r.operation (ap (λ (g : CollectorView). g.per_block) r.gc)
-    (ap (λ (t : TableView). length t.blocks) r.table)
-    (ap (λ (t : TableView). t.per_block) r.table) r.places
+    (ap (λ (t : BlockTableView). length t.blocks) r.table)
+    (ap (λ (t : BlockTableView). t.per_block) r.table) r.places
     (λ on. absurd (not_off old.flash new.flash r.operation.flash on))

@@ -13,8 +13,8 @@ use Rattle.ff_flash.specs.Cells.{Cell, cell_at, closed, erased, sealed}
 use Rattle.ff_flash.specs.declared.flash.FlashStop.{FlashStop}
 use Rattle.ff_flash.specs.declared.flash.FlashStop.TheVariants.{Failed, Off}
 use Rattle.ff_flash.specs.declared.spare.Spare.{Spare}
-use Rattle.ff_space.specs.BlockTable.{TableView}
-use Rattle.ff_map.specs.PageMap.{MapView}
+use Rattle.ff_space.specs.BlockTable.{BlockTableView}
+use Rattle.ff_map.specs.PageMap.{PageMapView}
 use Rattle.ff_map.specs.declared.places.Move.{Move}
 use Rattle.ff_gc.proofs.Keeping.{not_off, operated}
 use Rattle.ff_gc.proofs.Numbers.{place_is}
@@ -43,7 +43,7 @@ any_more P xs y found =
 seen_more : (per from victim seen : ℕ) → from / per ≡ victim → victim * per + seen ≤ from → seen ≤ from % per
 seen_more per from victim seen lies unseen = let is = place_is per from victim lies in omega arith
 
-copy_past : (per : ℕ) (cells : List Cell) (places : MapView) (job : Job) (original : Original) (one : Move)
+copy_past : (per : ℕ) (cells : List Cell) (places : PageMapView) (job : Job) (original : Original) (one : Move)
     → job.seen ≤ original.from.0 % per → IsCopy per cells places job one
     → IsCopy per cells places (past per job original) one
 copy_past per cells places job original one more c = record {
@@ -62,8 +62,8 @@ same_spare : (x y : List ℕ) (one other : Spare) → sealed x one ≡ sealed y 
 same_spare x y one other same = cc
 
 -- the copies with one more
-copies_more : (per : ℕ) (moves : List Move) (bytes : List ℕ) (cells : List Cell) (table : TableView)
-    (places : MapView) (job : Job) (original : Original) (at : Ppn) → AreMapped None cells places
+copies_more : (per : ℕ) (moves : List Move) (bytes : List ℕ) (cells : List Cell) (table : BlockTableView)
+    (places : PageMapView) (job : Job) (original : Original) (at : Ppn) → AreMapped None cells places
     → IsSealing per moves bytes cells table places job original at
     → AreCopies per (moves ++ move_to original at ∷ []) (set cells at.0 (sealed bytes (spare_in original))) places
     (past per job original)
@@ -111,7 +111,7 @@ copies_more per moves bytes cells table places job original at s sealing =
     }
 
 -- the stale page with one more copy
-stale_more : (per : ℕ) (moves : List Move) (places : MapView) (job : Job) (original : Original) (one : Move)
+stale_more : (per : ℕ) (moves : List Move) (places : PageMapView) (job : Job) (original : Original) (one : Move)
     → original.from.0 / per ≡ job.victim.0 → job.victim.0 * per + job.seen ≤ original.from.0
     → HasStaleBeside per moves places job original.from
     → HasStale per (moves ++ one ∷ []) places (past per job original)
@@ -135,7 +135,7 @@ stale_more per moves places job original one lies unseen stale =
     }
 
 -- what is next in a collection that copies
-at_after : (gc : CollectorView) (cells : List Cell) (table : TableView) (places : MapView) (job : Job)
+at_after : (gc : CollectorView) (cells : List Cell) (table : BlockTableView) (places : PageMapView) (job : Job)
     (phase : Phase) → IsAfter gc.per_block places job phase
     → IsReading gc.per_block gc.moves cells table places job → IsAt gc cells table places phase
 at_after gc cells table places job (Reading next) after reading =
@@ -151,7 +151,7 @@ at_after gc cells table places job (Erasing block) after reading = absurd after
 at_after gc cells table places job (Aborting block) after reading = absurd after
 
 -- a page that isn't erased is sealed
-pub tabled_sealed : (per : ℕ) (table : TableView) (cells : List Cell) (places : MapView) (at : ℕ) (bytes : List ℕ)
+pub tabled_sealed : (per : ℕ) (table : BlockTableView) (cells : List Cell) (places : PageMapView) (at : ℕ) (bytes : List ℕ)
     (spare : Spare) (cell : Cell) → cell_at cells at ≡ closed bytes spare → length (set cells at cell) ≡ length cells
     → IsTabled per table cells places → IsTabled per table (set cells at cell) places
 tabled_sealed per table cells places at bytes spare cell is size t =
@@ -163,8 +163,8 @@ tabled_sealed per table cells places at bytes spare cell is size t =
     t
 
 -- the collection after the seal of a copy
-reading_after : (per : ℕ) (moves : List Move) (bytes : List ℕ) (cells : List Cell) (table : TableView)
-    (places : MapView) (job : Job) (original : Original) (at : Ppn) → 0 < per → AreMapped None cells places
+reading_after : (per : ℕ) (moves : List Move) (bytes : List ℕ) (cells : List Cell) (table : BlockTableView)
+    (places : PageMapView) (job : Job) (original : Original) (at : Ppn) → 0 < per → AreMapped None cells places
     → IsSealing per moves bytes cells table places job original at
     → IsReading per (moves ++ move_to original at ∷ []) (set cells at.0 (sealed bytes (spare_in original))) table places
     (past per job original)
@@ -207,7 +207,7 @@ seals_kept old new job original at (Ok step) ready phase r =
           ready.fits.some ready.safe.mapped sealing);
     } in
     operated old new Seal None ready retained r.operation (ap (λ (g : CollectorView). g.per_block) r.gc.gc)
-    (ap (λ (t : TableView). length t.blocks) r.table) (ap (λ (t : TableView). t.per_block) r.table) r.places
+    (ap (λ (t : BlockTableView). length t.blocks) r.table) (ap (λ (t : BlockTableView). t.per_block) r.table) r.places
     (λ on. subst (λ (g : CollectorView). IsLive g new.flash.cells new.table old.places) (sym r.gc.gc) (rw (now, r.table) live))
 seals_kept old new job original at (Err Failed) ready phase r =
     let sealing = at_phase old (Sealing job original at) ready phase in
@@ -219,7 +219,7 @@ seals_kept old new job original at (Err Failed) ready phase r =
     (retains_seals old.flash.cells new.flash.cells at.0 original.from.0 old.gc.bytes (spare_in original) old.places
     (Err Failed) sealing.copy.cell sealing.programming.hand.cell ready.safe.mapped r.cells)
     r.operation (ap (λ (g : CollectorView). g.per_block) r.gc)
-    (ap (λ (t : TableView). length t.blocks) r.table) (ap (λ (t : TableView). t.per_block) r.table) r.places
+    (ap (λ (t : BlockTableView). length t.blocks) r.table) (ap (λ (t : BlockTableView). t.per_block) r.table) r.places
     (λ on. rw (r.gc, same, r.table) live)
 seals_kept old new job original at (Err Off) ready phase r =
     let sealing = at_phase old (Sealing job original at) ready phase in
@@ -227,5 +227,5 @@ seals_kept old new job original at (Err Off) ready phase r =
     (retains_seals old.flash.cells new.flash.cells at.0 original.from.0 old.gc.bytes (spare_in original) old.places
     (Err Off) sealing.copy.cell sealing.programming.hand.cell ready.safe.mapped r.cells)
     r.operation (ap (λ (g : CollectorView). g.per_block) r.gc)
-    (ap (λ (t : TableView). length t.blocks) r.table) (ap (λ (t : TableView). t.per_block) r.table) r.places
+    (ap (λ (t : BlockTableView). length t.blocks) r.table) (ap (λ (t : BlockTableView). t.per_block) r.table) r.places
     (λ on. absurd (not_off old.flash new.flash r.operation.flash on))

@@ -28,7 +28,7 @@ use Rattle.ff_flash.specs.Cells.{
 }
 use Rattle.ff_flash.specs.declared.flash.FlashStop.{FlashStop}
 use Rattle.ff_flash.specs.declared.spare.Spare.{Spare}
-use Rattle.ff_map.specs.PageMap.{MapView, mapping_of}
+use Rattle.ff_map.specs.PageMap.{PageMapView, mapping_of}
 use Rattle.ff_map.specs.declared.places.Mapping.{Mapping}
 use Rattle.ff_gc.specs.Cells.{AreMapped, AreSealed, HasNoPage, IsSafe}
 use Rattle.ff_gc.specs.World.{mapped_bytes}
@@ -39,14 +39,14 @@ pub record IsFrom (cells : List Cell) (bytes : List ℕ) (spare : Spare) : Type 
   pub is : cell_at cells at ≡ sealed bytes spare
 
 -- nothing is newly sealed but copies of what was sealed, and no mapped page is lost
-pub record Retains (places : MapView) (old new : List Cell) : Type 0 where
+pub record Retains (places : PageMapView) (old new : List Cell) : Type 0 where
   pub size : length new ≡ length old
   pub from : (a : ℕ) (x : List ℕ) (spare : Spare) → cell_at new a ≡ sealed x spare
       → IsFrom old x spare
   pub mapped : (page : PageNo) (m : Mapping) → mapping_of places page ≡ Some m
       → cell_at new m.at.0 ≡ cell_at old m.at.0
 
-pub sealed_retained : (pages ops later : ℕ) (places : MapView) (old new : List Cell)
+pub sealed_retained : (pages ops later : ℕ) (places : PageMapView) (old new : List Cell)
     → Retains places old new → ops ≤ later → AreSealed pages ops old → AreSealed pages later new
 sealed_retained pages ops later places old new r more s = record {
   same = λ a b x y spare p q.
@@ -59,7 +59,7 @@ sealed_retained pages ops later places old new r more s = record {
   full = λ a x spare p. s.full (r.from a x spare p).at x spare (r.from a x spare p).is;
 }
 
-pub mapped_retained : (places : MapView) (old new : List Cell) → Retains places old new
+pub mapped_retained : (places : PageMapView) (old new : List Cell) → Retains places old new
     → AreMapped None old places → AreMapped None new places
 mapped_retained places old new r s = record {
   placed = λ page m is. (let e = r.mapped page m is in rw e (s.placed page m is));
@@ -67,7 +67,7 @@ mapped_retained places old new r s = record {
   next = λ a x spare p. s.next (r.from a x spare p).at x spare (r.from a x spare p).is;
 }
 
-pub safe_retained : (blocks per ops later : ℕ) (places : MapView) (old new : List Cell)
+pub safe_retained : (blocks per ops later : ℕ) (places : PageMapView) (old new : List Cell)
     → Retains places old new → ops ≤ later → IsSafe None blocks per ops old places
     → IsSafe None blocks per later new places
 safe_retained blocks per ops later places old new r more s = record {
@@ -78,13 +78,13 @@ safe_retained blocks per ops later places old new r more s = record {
   spare = s.spare;
 }
 
-pub bytes_retained : (places : MapView) (old new : List Cell) → Retains places old new
+pub bytes_retained : (places : PageMapView) (old new : List Cell) → Retains places old new
     → (page : PageNo) (m : Option Mapping) → mapping_of places page ≡ m
     → mapped_bytes new m ≡ mapped_bytes old m
 bytes_retained places old new r page None is = refl
 bytes_retained places old new r page (Some m) is = ap cell_bytes (r.mapped page m is)
 
-pub retains_same : (places : MapView) (old new : List Cell) → new ≡ old → Retains places old new
+pub retains_same : (places : PageMapView) (old new : List Cell) → new ≡ old → Retains places old new
 retains_same places old new same = record {
   size = ap length same;
   from = λ a x spare p. record { at = a; is = sym (ap (λ cells. cell_at cells a) same) ∙ p };
@@ -100,7 +100,7 @@ pub cell_at-set_other : (cells : List Cell) (at : ℕ) (cell : Cell) (a : ℕ) �
 cell_at-set_other cells at cell a other = get_or-set_other cells at a cell erased other
 
 -- a mapped page is at another place than one that isn't sealed
-pub mapped_apart : (cells : List Cell) (at : ℕ) (places : MapView) → IsUnsealed (cell_at cells at)
+pub mapped_apart : (cells : List Cell) (at : ℕ) (places : PageMapView) → IsUnsealed (cell_at cells at)
     → AreMapped None cells places → (page : PageNo) (m : Mapping)
     → mapping_of places page ≡ Some m → m.at.0 ≢ at
 mapped_apart cells at places unsealed s page m is =
@@ -109,7 +109,7 @@ mapped_apart cells at places unsealed s page m is =
 
 -- whatever becomes of a program
 pub retains_programmed : (cells new : List Cell) (at : ℕ) (bytes : List ℕ) (spare : Spare)
-    (result : Result (Unit {0}) FlashStop) (places : MapView) → cell_at cells at ≡ erased
+    (result : Result (Unit {0}) FlashStop) (places : PageMapView) → cell_at cells at ≡ erased
     → AreMapped None cells places → Programs cells at bytes spare result new
     → Retains places cells new
 retains_programmed cells new at bytes spare result places blank s is =
@@ -125,7 +125,7 @@ retains_programmed cells new at bytes spare result places blank s is =
 
 -- a copy is sealed whose bytes and spare stand sealed elsewhere
 pub retains_sealed : (cells : List Cell) (at from : ℕ) (bytes : List ℕ) (spare : Spare)
-    (places : MapView) → cell_at cells at ≡ closed bytes spare
+    (places : PageMapView) → cell_at cells at ≡ closed bytes spare
     → cell_at cells from ≡ sealed bytes spare → AreMapped None cells places
     → Retains places cells (set cells at (sealed bytes spare))
 retains_sealed cells at from bytes spare places is there s =
@@ -146,7 +146,7 @@ retains_sealed cells at from bytes spare places is there s =
 
 -- whatever becomes of the seal of a copy
 pub retains_seals : (cells new : List Cell) (at from : ℕ) (bytes : List ℕ) (spare : Spare)
-    (places : MapView) (result : Result (Unit {0}) FlashStop) → cell_at cells at ≡ closed bytes spare
+    (places : PageMapView) (result : Result (Unit {0}) FlashStop) → cell_at cells at ≡ closed bytes spare
     → cell_at cells from ≡ sealed bytes spare → AreMapped None cells places
     → Seals cells at result new → Retains places cells new
 retains_seals cells new at from bytes spare places result is there s seals =
@@ -157,7 +157,7 @@ retains_seals cells new at from bytes spare places result is there s seals =
 
 -- whatever becomes of an erase of a block without mapped pages
 pub retains_erased : (per block : ℕ) (cells new : List Cell)
-    (result : Result (Unit {0}) FlashStop) (places : MapView) → HasNoPage per places block
+    (result : Result (Unit {0}) FlashStop) (places : PageMapView) → HasNoPage per places block
     → Erases per cells block result new → Retains places cells new
 retains_erased per block cells new result places none is = record {
   size = erase_length per cells block result new is;

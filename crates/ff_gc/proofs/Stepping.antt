@@ -3,8 +3,8 @@ use Rattle.std.proofs.Common.{◌≡◌, ℕ, true, [], refl, sym, subst, arith}
 use Rattle.std.specs.Prelude.{Result}
 use Rattle.ff_flash.specs.declared.flash.FlashStop.{FlashStop}
 use Rattle.ff_space.specs.Blocks.{after_hold, waiting}
-use Rattle.ff_space.specs.BlockTable.{IsTableSound}
-use Rattle.ff_map.specs.PageMap.{MapView}
+use Rattle.ff_space.specs.BlockTable.{IsBlockTableSound}
+use Rattle.ff_map.specs.PageMap.{PageMapView}
 use Rattle.ff_gc.proofs.Begun.{begun_ready}
 use Rattle.ff_gc.proofs.Emptied.{emptying_is, emptying_ready, erases_kept, given_up_is, given_up_ready}
 use Rattle.ff_gc.proofs.Keeping.{keeps_after, same_changed}
@@ -39,7 +39,7 @@ use Rattle.ff_gc.specs.declared.phase.Phase.{Phase}
 use Rattle.ff_gc.specs.declared.phase.Phase.TheVariants.{Idle, Programming, Reading, Sealing, Commit, Erasing, Aborting}
 
 -- where a page is next, not all is seen
-pub not_all_seen : (per : ℕ) (places : MapView) (job : Job) (original : Original)
+pub not_all_seen : (per : ℕ) (places : PageMapView) (job : Job) (original : Original)
     → IsNextOriginal per places job original → IsAllSeen per places job → ⊥
 not_all_seen per places job original next all =
     let below = all original.page (record { at = original.from; version = original.version }) next.is next.from_in in
@@ -80,7 +80,7 @@ programs_next_kept old new job original result ready phase (full whole r) =
     (erases_kept (given_up old job) new job.into Aborted result (given_up_ready old job original ready phase)
     (given_up_is old job original ready phase) r)
 
-begins_kept : (old new : World) (result : Result GcStep FlashStop) → IsTableSound old.table
+begins_kept : (old new : World) (result : Result GcStep FlashStop) → IsBlockTableSound old.table
     → IsCollectorReady old → old.gc.phase ≡ Idle → Begins old result new → Keeps old new
 begins_kept old new result sound ready phase (idle all is same) =
     subst (λ (w : World). Keeps old w) (sym same) (nothing_kept old ready)
@@ -99,7 +99,7 @@ begins_kept old new result sound ready phase (mapped victim into v some least r)
     (begun_ready old victim into sound ready phase v.has.full least.has (omega arith)) refl r)
 
 step_kept : (phase : Phase) (old new : World) (result : Result GcStep FlashStop)
-    → IsTableSound old.table → IsCollectorReady old → old.gc.phase ≡ phase → IsStepAt phase old result new
+    → IsBlockTableSound old.table → IsCollectorReady old → old.gc.phase ≡ phase → IsStepAt phase old result new
     → Keeps old new
 step_kept Idle old new result sound ready phase r = begins_kept old new result sound ready phase r
 step_kept (Reading job) old new result sound ready phase r = reads_next_kept old new job result ready phase r
@@ -115,7 +115,7 @@ step_kept (Aborting block) old new result sound ready phase r =
     erases_kept old new block Aborted result ready (at_phase old (Aborting block) ready phase) r
 
 -- every step keeps what it needs
-pub steps_kept : (old new : World) (result : Result GcStep FlashStop) → IsTableSound old.table
+pub steps_kept : (old new : World) (result : Result GcStep FlashStop) → IsBlockTableSound old.table
     → IsCollectorReady old → IsStep old result new → Keeps old new
 steps_kept old new result sound ready step = step_kept old.gc.phase old new result sound ready refl step
 

@@ -7,7 +7,7 @@ use Rattle.ff_base.specs.declared.numbers.PageNo.{PageNo}
 use Rattle.ff_base.specs.declared.numbers.Ppn.{Ppn}
 use Rattle.ff_flash.specs.Cells.{Cell, cell_at, cell_bytes, sealed}
 use Rattle.ff_map.proofs.Lookups.{moved-none, moved_along, moved_elsewhere, moved_named}
-use Rattle.ff_map.specs.PageMap.{IsSwitched, MapView, mapping_of, moved, moved_by}
+use Rattle.ff_map.specs.PageMap.{IsSwitched, PageMapView, mapping_of, moved, moved_by}
 use Rattle.ff_map.specs.declared.places.Mapping.{Mapping}
 use Rattle.ff_map.specs.declared.places.Move.{Move}
 use Rattle.ff_gc.proofs.PageCopies.{victim_apart}
@@ -18,7 +18,7 @@ use Rattle.ff_gc.specs.declared.phase.Job.{Job}
 use Rattle.ff_gc.proofs.Switching.{IsCommittingIn}
 
 -- a mapping after the switch
-pub record Now (per : ℕ) (cells : List Cell) (job : Job) (places : MapView) (page : PageNo) (m : Mapping)
+pub record Now (per : ℕ) (cells : List Cell) (job : Job) (places : PageMapView) (page : PageNo) (m : Mapping)
     : Type 0 where
   pub new : Mapping
   pub is : mapping_of places page ≡ Some new
@@ -27,7 +27,7 @@ pub record Now (per : ℕ) (cells : List Cell) (job : Job) (places : MapView) (p
   pub from_victim : m.at.0 / per ≡ job.victim.0 → new.at.0 / per ≡ job.into.0
   pub from_else : m.at.0 / per ≢ job.victim.0 → new ≡ m
 
-pub now_of : (w : World) (job : Job) (places : MapView) → IsCommittingIn w job
+pub now_of : (w : World) (job : Job) (places : PageMapView) → IsCommittingIn w job
     → IsSwitched w.gc.moves w.places places → (page : PageNo) (m : Mapping)
     → mapping_of w.places page ≡ Some m → Now w.gc.per_block w.flash.cells job places page m
 now_of w job places c switched page m is =
@@ -73,19 +73,19 @@ now_of w job places c switched page m is =
           }
     ]
 
-pub none_now : (w : World) (places : MapView) → IsSwitched w.gc.moves w.places places → (page : PageNo)
+pub none_now : (w : World) (places : PageMapView) → IsSwitched w.gc.moves w.places places → (page : PageNo)
     → mapping_of w.places page ≡ None → mapping_of places page ≡ None
 none_now w places switched page is =
     switched.mappings page ∙ ap (λ (o : Option Mapping). moved w.gc.moves page o) is ∙ moved-none w.gc.moves page
 
 -- a mapping before the switch, of one after it
-record Was (w : World) (job : Job) (places : MapView) (page : PageNo) (new : Mapping) : Type 0 where
+record Was (w : World) (job : Job) (places : PageMapView) (page : PageNo) (new : Mapping) : Type 0 where
   pub old : Mapping
   pub is : mapping_of w.places page ≡ Some old
   pub now : Now w.gc.per_block w.flash.cells job places page old
   pub same : now.new ≡ new
 
-was_by : (w : World) (job : Job) (places : MapView) → IsCommittingIn w job
+was_by : (w : World) (job : Job) (places : PageMapView) → IsCommittingIn w job
     → IsSwitched w.gc.moves w.places places → (page : PageNo) (new : Mapping)
     → mapping_of places page ≡ Some new → (o : Option Mapping) → mapping_of w.places page ≡ o
     → Was w job places page new
@@ -95,13 +95,13 @@ was_by w job places c switched page new is (Some m) before =
     let now = now_of w job places c switched page m before in
     record { old = m; is = before; now = now; same = same_Some now.new new (sym now.is ∙ is) }
 
-was_of : (w : World) (job : Job) (places : MapView) → IsCommittingIn w job
+was_of : (w : World) (job : Job) (places : PageMapView) → IsCommittingIn w job
     → IsSwitched w.gc.moves w.places places → (page : PageNo) (new : Mapping)
     → mapping_of places page ≡ Some new → Was w job places page new
 was_of w job places c switched page new is =
     was_by w job places c switched page new is (mapping_of w.places page) refl
 
-pub same_bytes : (w : World) (job : Job) (places : MapView) → IsCommittingIn w job
+pub same_bytes : (w : World) (job : Job) (places : PageMapView) → IsCommittingIn w job
     → IsSwitched w.gc.moves w.places places → (page : PageNo) (o : Option Mapping)
     → mapping_of w.places page ≡ o
     → mapped_bytes w.flash.cells (mapping_of places page) ≡ mapped_bytes w.flash.cells o
@@ -112,7 +112,7 @@ same_bytes w job places c switched page (Some m) is =
     ap (λ (o : Option Mapping). mapped_bytes w.flash.cells o) now.is ∙ ap cell_bytes now.cell
 
 -- no page is mapped in the victim any more
-pub victim_empty : (w : World) (job : Job) (places : MapView) → IsCommittingIn w job
+pub victim_empty : (w : World) (job : Job) (places : PageMapView) → IsCommittingIn w job
     → IsSwitched w.gc.moves w.places places → HasNoPage w.gc.per_block places job.victim.0
 victim_empty w job places c switched page new is lies =
     let per = w.gc.per_block in
@@ -124,7 +124,7 @@ victim_empty w job places c switched page new is lies =
       | inr other ↦ other (sym (ap (λ (m : Mapping). m.at.0 / per) (was.now.from_else other)) ∙ new_at)
     ]
 
-pub switched_mapped : (w : World) (job : Job) (places : MapView) → IsCollectorReady w → IsCommittingIn w job
+pub switched_mapped : (w : World) (job : Job) (places : PageMapView) → IsCollectorReady w → IsCommittingIn w job
     → IsSwitched w.gc.moves w.places places → AreMapped None w.flash.cells places
 switched_mapped w job places ready c switched = record {
   placed = λ page new is.

@@ -13,7 +13,7 @@ use Rattle.ff_space.specs.BlockTable.{after_collection, block_at}
 use Rattle.ff_space.specs.declared.block.BlockEntry.{BlockEntry}
 use Rattle.ff_space.specs.declared.block.BlockState.{BlockState}
 use Rattle.ff_space.specs.declared.block.BlockState.TheVariants.{Erased, Full, Held, Open, Waiting}
-use Rattle.ff_map.specs.PageMap.{IsSwitched, MapView, mapping_of}
+use Rattle.ff_map.specs.PageMap.{IsSwitched, PageMapView, mapping_of}
 use Rattle.ff_map.specs.declared.places.Mapping.{Mapping}
 use Rattle.ff_gc.proofs.Counting.{count_alike, count_zero}
 use Rattle.ff_gc.specs.Running.{IsTabled}
@@ -24,7 +24,7 @@ use Rattle.ff_gc.proofs.Switching.{IsCommittingIn, can_end, into_empty}
 use Rattle.ff_gc.proofs.Switched.{none_now, now_of, victim_empty}
 
 -- how a page is counted in a block, after the switch
-counted_into : (w : World) (job : Job) (places : MapView) → IsCollectorReady w → IsCommittingIn w job
+counted_into : (w : World) (job : Job) (places : PageMapView) → IsCollectorReady w → IsCommittingIn w job
     → IsSwitched w.gc.moves w.places places → (page : PageNo) (o : Option Mapping)
     → mapping_of w.places page ≡ o
     → is_in w.gc.per_block job.into.0 (mapping_of places page) ≡ is_in w.gc.per_block job.victim.0 o
@@ -44,7 +44,7 @@ counted_into w job places ready c switched page (Some m) is =
           ∙ sym (ne_eqb (m.at.0 / per) job.victim.0 other)
     ])
 
-counted_other : (w : World) (job : Job) (places : MapView) → IsCommittingIn w job
+counted_other : (w : World) (job : Job) (places : PageMapView) → IsCommittingIn w job
     → IsSwitched w.gc.moves w.places places → (block : ℕ) → block ≢ job.victim.0 → block ≢ job.into.0
     → (page : PageNo) (o : Option Mapping) → mapping_of w.places page ≡ o
     → is_in w.gc.per_block block (mapping_of places page) ≡ is_in w.gc.per_block block o
@@ -61,14 +61,14 @@ counted_other w job places c switched block not_victim not_into page (Some m) is
       | inr other ↦ ap (λ (x : Mapping). eqb (x.at.0 / per) block) (now.from_else other)
     ])
 
-counted_victim : (w : World) (job : Job) (places : MapView) → IsCommittingIn w job
+counted_victim : (w : World) (job : Job) (places : PageMapView) → IsCommittingIn w job
     → IsSwitched w.gc.moves w.places places → (page : PageNo) (o : Option Mapping)
     → mapping_of places page ≡ o → is_in w.gc.per_block job.victim.0 o ≡ false
 counted_victim w job places c switched page None is = refl
 counted_victim w job places c switched page (Some m) is =
     ne_eqb (m.at.0 / w.gc.per_block) job.victim.0 (victim_empty w job places c switched page m is)
 
-switched_counted : (w : World) (job : Job) (places : MapView) → IsCollectorReady w → IsCommittingIn w job
+switched_counted : (w : World) (job : Job) (places : PageMapView) → IsCollectorReady w → IsCommittingIn w job
     → IsSwitched w.gc.moves w.places places → (block : ℕ) → block < length w.table.blocks
     → (block_at (after_collection w.table job.victim.0 job.into.0) block).mapped
     ≡ mapped_in w.gc.per_block places block
@@ -122,7 +122,7 @@ by_next_not per next state not_erased not_full not_open is = elim (cases_Bool (e
   ]
 ]
 
-pub switched_tabled : (w : World) (job : Job) (places : MapView) → IsCollectorReady w → IsCommittingIn w job
+pub switched_tabled : (w : World) (job : Job) (places : PageMapView) → IsCollectorReady w → IsCommittingIn w job
     → IsSwitched w.gc.moves w.places places
     → IsTabled w.gc.per_block (after_collection w.table job.victim.0 job.into.0) w.flash.cells places
 switched_tabled w job places ready c switched =

@@ -8,25 +8,25 @@ use Rattle.ff_space.proofs.Changed.{
   each-changed_at,
   length-changed_at,
 }
-use Rattle.ff_space.specs.BlockTable.{IsInState, TableView, block_at, changed_at}
+use Rattle.ff_space.specs.BlockTable.{IsInState, BlockTableView, block_at, changed_at}
 use Rattle.ff_space.specs.Choices.{NoBlock}
 use Rattle.ff_space.specs.declared.block.BlockEntry.{BlockEntry}
 use Rattle.ff_space.specs.declared.block.BlockState.{BlockState}
 use Rattle.ff_space.specs.declared.block.BlockState.TheVariants.{Waiting}
-use Rattle.ff_map.specs.PageMap.{MapView}
+use Rattle.ff_map.specs.PageMap.{PageMapView}
 use Rattle.ff_gc.specs.Running.{IsOnlyBlock, IsTabled}
 use Rattle.ff_map.specs.MappedPages.{mapped_in}
 
-pub within_of : (table : TableView) (block : ℕ) (change : BlockEntry → BlockEntry) (other : ℕ)
+pub within_of : (table : BlockTableView) (block : ℕ) (change : BlockEntry → BlockEntry) (other : ℕ)
     → other < length (changed_at table block change).blocks → other < length table.blocks
 within_of table block change other within = omega (arith, length-changed_at table block change)
 
-pub within_to : (table : TableView) (block : ℕ) (change : BlockEntry → BlockEntry) (other : ℕ)
+pub within_to : (table : BlockTableView) (block : ℕ) (change : BlockEntry → BlockEntry) (other : ℕ)
     → other < length table.blocks → other < length (changed_at table block change).blocks
 within_to table block change other within = omega (arith, length-changed_at table block change)
 
 -- another block is in its state, before and after
-pub state_before : (table : TableView) (block : ℕ) (change : BlockEntry → BlockEntry)
+pub state_before : (table : BlockTableView) (block : ℕ) (change : BlockEntry → BlockEntry)
     (state : BlockState) (other : ℕ) → other ≢ block
     → IsInState (changed_at table block change).blocks state other
     → IsInState table.blocks state other
@@ -35,7 +35,7 @@ state_before table block change state other apart is = record {
   state = ap (λ (e : BlockEntry). e.state) (sym (block_at-changed_at_other table block change other apart)) ∙ is.state;
 }
 
-pub state_after : (table : TableView) (block : ℕ) (change : BlockEntry → BlockEntry)
+pub state_after : (table : BlockTableView) (block : ℕ) (change : BlockEntry → BlockEntry)
     (state : BlockState) (other : ℕ) → other ≢ block → IsInState table.blocks state other
     → IsInState (changed_at table block change).blocks state other
 state_after table block change state other apart is = record {
@@ -44,7 +44,7 @@ state_after table block change state other apart is = record {
 }
 
 -- the changed block
-pub state_of_changed : (table : TableView) (block : ℕ) (change : BlockEntry → BlockEntry)
+pub state_of_changed : (table : BlockTableView) (block : ℕ) (change : BlockEntry → BlockEntry)
     (state : BlockState) → IsInState (changed_at table block change).blocks state block
     → (change (block_at table block)).state ≡ state
 state_of_changed table block change state is =
@@ -52,7 +52,7 @@ state_of_changed table block change state is =
     (sym (block_at-changed_at table block change (within_of table block change block is.in_range)))
     ∙ is.state
 
-pub changed_in_state : (table : TableView) (block : ℕ) (change : BlockEntry → BlockEntry)
+pub changed_in_state : (table : BlockTableView) (block : ℕ) (change : BlockEntry → BlockEntry)
     (state : BlockState) → block < length table.blocks
     → (change (block_at table block)).state ≡ state
     → IsInState (changed_at table block change).blocks state block
@@ -62,7 +62,7 @@ changed_in_state table block change state within is = record {
 }
 
 -- no block is in a state, still
-pub none_after : (table : TableView) (block : ℕ) (change : BlockEntry → BlockEntry)
+pub none_after : (table : BlockTableView) (block : ℕ) (change : BlockEntry → BlockEntry)
     (state : BlockState) → NoBlock (IsInState table.blocks state)
     → (change (block_at table block)).state ≢ state
     → NoBlock (IsInState (changed_at table block change).blocks state)
@@ -75,7 +75,7 @@ none_after table block change state none other each is = elim (cases_eq each blo
 ]
 
 -- no block is in a state any more
-pub none_left : (table : TableView) (block : ℕ) (change : BlockEntry → BlockEntry)
+pub none_left : (table : BlockTableView) (block : ℕ) (change : BlockEntry → BlockEntry)
     (state : BlockState) → IsOnlyBlock table state block
     → (change (block_at table block)).state ≢ state
     → NoBlock (IsInState (changed_at table block change).blocks state)
@@ -88,7 +88,7 @@ none_left table block change state only other each is = elim (cases_eq each bloc
 ]
 
 -- the block alone is in a state, still
-pub only_stays : (table : TableView) (block : ℕ) (change : BlockEntry → BlockEntry)
+pub only_stays : (table : BlockTableView) (block : ℕ) (change : BlockEntry → BlockEntry)
     (state : BlockState) (one : ℕ) → one ≢ block → IsOnlyBlock table state one
     → (change (block_at table block)).state ≢ state
     → IsOnlyBlock (changed_at table block change) state one
@@ -104,7 +104,7 @@ only_stays table block change state one apart only other = record {
 }
 
 -- the changed block alone is in a state
-pub only_changed : (table : TableView) (block : ℕ) (change : BlockEntry → BlockEntry)
+pub only_changed : (table : BlockTableView) (block : ℕ) (change : BlockEntry → BlockEntry)
     (state : BlockState) → block < length table.blocks
     → (change (block_at table block)).state ≡ state
     → ((other : ℕ) → IsInState table.blocks state other → other ≡ block)
@@ -124,12 +124,12 @@ pub record KeepsPages (old new : BlockEntry) : Type 0 where
   pub next : new.state ≢ Waiting → old.next ≤ new.next
 
 -- a page from the write place on
-pub record IsBlank (table : TableView) (block rest : ℕ) : Type 0 where
+pub record IsBlank (table : BlockTableView) (block rest : ℕ) : Type 0 where
   pub state : (block_at table block).state ≢ Waiting
   pub next : (block_at table block).next ≤ rest
 
-pub tabled_changed : (per : ℕ) (table : TableView) (block : ℕ) (change : BlockEntry → BlockEntry)
-    (cells : List Cell) (places : MapView) → block < length table.blocks
+pub tabled_changed : (per : ℕ) (table : BlockTableView) (block : ℕ) (change : BlockEntry → BlockEntry)
+    (cells : List Cell) (places : PageMapView) → block < length table.blocks
     → KeepsPages (block_at table block) (change (block_at table block))
     → IsTabled per table cells places → IsTabled per (changed_at table block change) cells places
 tabled_changed per table block change cells places within keeps t = record {
@@ -147,7 +147,7 @@ tabled_changed per table block change cells places within keeps t = record {
 }
 
 -- cells change elsewhere than in the blank pages
-pub tabled_cells : (per : ℕ) (table : TableView) (cells new : List Cell) (places : MapView)
+pub tabled_cells : (per : ℕ) (table : BlockTableView) (cells new : List Cell) (places : PageMapView)
     → length new ≡ length cells
     → ((a : ℕ) → cell_at cells a ≡ erased → cell_at new a ≡ erased)
     → IsTabled per table cells places → IsTabled per table new places
@@ -157,8 +157,8 @@ tabled_cells per table cells new places size kept t = record {
 }
 
 -- a page was programmed at the write place of a block, whatever became of it
-pub tabled_programmed : (per : ℕ) (table : TableView) (block : ℕ)
-    (change : BlockEntry → BlockEntry) (cells new : List Cell) (places : MapView) (at : ℕ)
+pub tabled_programmed : (per : ℕ) (table : BlockTableView) (block : ℕ)
+    (change : BlockEntry → BlockEntry) (cells new : List Cell) (places : PageMapView) (at : ℕ)
     → block < length table.blocks
     → KeepsPages (block_at table block) (change (block_at table block))
     → (change (block_at table block)).next ≡ (block_at table block).next + 1

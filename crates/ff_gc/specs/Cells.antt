@@ -4,7 +4,7 @@ use Rattle.ff_base.specs.declared.numbers.PageNo.{PageNo}
 use Rattle.ff_base.specs.declared.numbers.TheConstants.{PAGE_BYTES}
 use Rattle.ff_flash.specs.Cells.{Cell, sealed, cell_at, cell_bytes}
 use Rattle.ff_flash.specs.declared.spare.Spare.{Spare}
-use Rattle.ff_map.specs.PageMap.{MapView, mapping_of}
+use Rattle.ff_map.specs.PageMap.{PageMapView, mapping_of}
 use Rattle.ff_map.specs.declared.places.Mapping.{Mapping}
 
 -- equal versions of a page have equal bytes, a page's worth. Pages are in range, and versions are those of operations
@@ -32,14 +32,14 @@ IsUnmapped None at spare = ⊥
 IsUnmapped (Some one) at spare = (at ≡ one.at) × (spare ≡ one.spare)
 
 -- the page of a spare is mapped, and its mapping is not older
-pub record HasNewer (places : MapView) (spare : Spare) : Type 0 where
+pub record HasNewer (places : PageMapView) (spare : Spare) : Type 0 where
   pub mapping : Mapping
   pub is : mapping_of places spare.page ≡ Some mapping
   pub newer : spare.version ≤ mapping.version
 
 -- the map against the cells: a mapped page is at a sealed cell of its page and version, and each sealed page is mapped,
 -- to a version that isn't older, or is the one that the map may not know
-pub record AreMapped (unmapped : Option Unmapped) (cells : List Cell) (places : MapView)
+pub record AreMapped (unmapped : Option Unmapped) (cells : List Cell) (places : PageMapView)
     : Type 0 where
   pub placed : (page : PageNo) (m : Mapping) → mapping_of places page ≡ Some m
       → cell_at cells m.at.0
@@ -50,19 +50,19 @@ pub record AreMapped (unmapped : Option Unmapped) (cells : List Cell) (places : 
       → spare.version < places.next_version
 
 -- no page is mapped in the block
-abbrev pub HasNoPage : ℕ → MapView → ℕ → Type 0
+abbrev pub HasNoPage : ℕ → PageMapView → ℕ → Type 0
 HasNoPage per_block places block = (page : PageNo) (m : Mapping) → mapping_of places page ≡ Some m
     → m.at.0 / per_block ≢ block
 
 -- a block in which no page is mapped, so that it may be erased
-pub record HasSpare (blocks per_block : ℕ) (places : MapView) : Type 0 where
+pub record HasSpare (blocks per_block : ℕ) (places : PageMapView) : Type 0 where
   pub block : ℕ
   pub in_range : block < blocks
   pub unmapped : HasNoPage per_block places block
 
 -- what holds always
 pub record IsSafe (unmapped : Option Unmapped) (blocks per_block operations : ℕ)
-    (cells : List Cell) (places : MapView) : Type 0 where
+    (cells : List Cell) (places : PageMapView) : Type 0 where
   pub sealed_cells : AreSealed (length places.pages) operations cells
   pub mapped : AreMapped unmapped cells places
   pub first : 1 ≤ places.next_version

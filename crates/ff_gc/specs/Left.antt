@@ -1,6 +1,6 @@
 -- How many steps a collection still has, and whether it ends with a page to program where none of them fails.
 use Rattle.std.specs.Prelude.{ℕ, ◌+◌, ◌-◌, ◌*◌, ◌%◌, ◌<◌, ◌≡◌, Bool, true, false, List, length, count_by}
-use Rattle.ff_space.specs.BlockTable.{TableView, block_at, erased_count}
+use Rattle.ff_space.specs.BlockTable.{BlockTableView, block_at, erased_count}
 use Rattle.ff_space.specs.declared.block.BlockEntry.{BlockEntry}
 use Rattle.ff_space.specs.declared.block.BlockState.{BlockState}
 use Rattle.ff_space.specs.declared.block.BlockState.TheVariants.{Erased, Open, Full, Held, Waiting}
@@ -43,7 +43,7 @@ open_count blocks = count_by (λ block. is_open block.state) blocks
 
 -- the collection ends with a page to program, in an open block or in an erased one that isn't the last: no page of its
 -- destination is lost so far, or its end is near and such a block is there
-abbrev pub IsEndingAt : List Move → TableView → Phase → Type 0
+abbrev pub IsEndingAt : List Move → BlockTableView → Phase → Type 0
 IsEndingAt moves table Idle = 0 < open_count table.blocks + (erased_count table.blocks - 1)
 IsEndingAt moves table (Reading job) = (block_at table job.into.0).next ≡ length moves
 IsEndingAt moves table (Programming job original) = (block_at table job.into.0).next ≡ length moves
@@ -53,5 +53,5 @@ IsEndingAt moves table (Commit job) = (block_at table job.into.0).next ≡ lengt
 IsEndingAt moves table (Erasing block) = 0 < open_count table.blocks + erased_count table.blocks
 IsEndingAt moves table (Aborting block) = 0 < open_count table.blocks + erased_count table.blocks
 
-abbrev pub IsEnding : CollectorView → TableView → Type 0
+abbrev pub IsEnding : CollectorView → BlockTableView → Type 0
 IsEnding gc table = IsEndingAt gc.moves table gc.phase

@@ -8,7 +8,7 @@ use Rattle.ff_flash.specs.Injected.{stop_of}
 use Rattle.ff_flash.specs.declared.flash.FlashStop.{FlashStop}
 use Rattle.ff_flash.specs.declared.flash.FlashStop.TheVariants.{Failed, Off}
 use Rattle.ff_space.specs.Blocks.{advanced, after_hold, erased_block, waiting}
-use Rattle.ff_space.specs.BlockTable.{TableView, IsInState, after_collection, block_at, changed_at}
+use Rattle.ff_space.specs.BlockTable.{BlockTableView, IsInState, after_collection, block_at, changed_at}
 use Rattle.ff_space.specs.Choices.{IsAllMapped, IsLeast, IsVictimBlock}
 use Rattle.ff_space.specs.declared.block.BlockState.TheVariants.{Erased as ErasedBlock}
 use Rattle.ff_map.specs.PageMap.{IsSwitched}
@@ -42,7 +42,7 @@ pub data Takes (old : World) (stop : Option FlashStop) (new : World) : Type 0 wh
   rested : new.flash ≡ old.flash → new.counts ≡ old.counts → stop ≡ None → Takes old stop new
 
 -- the page in the destination that is programmed next
-abbrev pub next_place : ℕ → TableView → Job → ℕ
+abbrev pub next_place : ℕ → BlockTableView → Job → ℕ
 next_place per_block table job = job.into.0 * per_block + (block_at table job.into.0).next
 
 -- a page of the victim is read
@@ -68,7 +68,7 @@ abbrev pub after_program : CollectorView → Job → Original → Ppn → Result
 after_program gc job original at (Ok _) = record gc { phase = Sealing job original at }
 after_program gc job original at (Err _) = gc
 
-abbrev pub table_after_program : TableView → Job → Result GcStep FlashStop → TableView
+abbrev pub table_after_program : BlockTableView → Job → Result GcStep FlashStop → BlockTableView
 table_after_program table job (Err Off) = table
 table_after_program table job _ = changed_at table job.into.0 (advanced table.per_block)
 
@@ -122,7 +122,7 @@ abbrev pub after_erase : CollectorView → Result GcStep FlashStop → Collector
 after_erase gc (Ok _) = record gc { phase = Idle }
 after_erase gc (Err _) = gc
 
-abbrev pub table_after_erase : TableView → Block → Result GcStep FlashStop → TableView
+abbrev pub table_after_erase : BlockTableView → Block → Result GcStep FlashStop → BlockTableView
 table_after_erase table block (Ok _) = changed_at table block.0 (λ _. erased_block)
 table_after_erase table block (Err _) = table
 

@@ -4,8 +4,8 @@ use Rattle.ff_base.specs.Page.{blank_page}
 use Rattle.ff_base.specs.declared.numbers.PageNo.{PageNo}
 use Rattle.ff_flash.specs.Cells.{Cell, cell_at, cell_bytes}
 use Rattle.ff_flash.specs.FlashState.{FlashState}
-use Rattle.ff_space.specs.BlockTable.{TableView}
-use Rattle.ff_map.specs.PageMap.{MapView, mapping_of, version_of}
+use Rattle.ff_space.specs.BlockTable.{BlockTableView}
+use Rattle.ff_map.specs.PageMap.{PageMapView, mapping_of, version_of}
 use Rattle.ff_map.specs.declared.places.Mapping.{Mapping}
 use Rattle.ff_gc.specs.Cells.{IsSafe}
 use Rattle.ff_gc.specs.Collector.{CollectorView}
@@ -16,11 +16,11 @@ use Rattle.ff_gc.specs.declared.counts.Counts.{Counts}
 pub record World : Type 0 where
   pub gc : CollectorView
   pub flash : FlashState
-  pub table : TableView
-  pub places : MapView
+  pub table : BlockTableView
+  pub places : PageMapView
   pub counts : Counts
 
-abbrev pub world_of : CollectorView → FlashState → TableView → MapView → Counts → World
+abbrev pub world_of : CollectorView → FlashState → BlockTableView → PageMapView → Counts → World
 world_of gc flash table places counts =
     record { gc = gc; flash = flash; table = table; places = places; counts = counts }
 

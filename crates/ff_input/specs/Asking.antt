@@ -1,7 +1,7 @@
 -- What an input asks for, and why one is refused.
 use Rattle.std.specs.Prelude.{ℕ, false, ⊤, List, length, Ok, Err}
-use Rattle.ff_settings.specs.Settings.{IsAnswer}
-use Rattle.ff_settings.specs.SettingsView.{SettingsView}
+use Rattle.ff_settings.specs.Document.{IsAnswer}
+use Rattle.ff_settings.specs.Settings.{SettingsView}
 use Rattle.ff_settings.specs.declared.given.BadSettings.{BadSettings}
 use Rattle.ff_settings.specs.declared.given.BadSettings.TheVariants as bad_settings
 use Rattle.ff_trace.specs.Trace.{IsCauseOf, IsTrace}

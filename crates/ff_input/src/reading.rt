@@ -1,7 +1,7 @@
 // What an input asks for: its settings and the rows of its trace.
 ghost use Rattle.std.specs.Prelude.{◌≡◌, ◌≤◌, IfOk, IfErr, Ok, false};
 ghost use Rattle.ff_settings.specs.Bounds.{IsSettingsSound};
-ghost use Rattle.ff_settings.specs.Settings.{IsAnswer, settings_view};
+ghost use Rattle.ff_settings.specs.Document.{IsAnswer, settings_view};
 ghost use Rattle.ff_trace.specs.Tally.{most_losses};
 ghost use Rattle.ff_trace.specs.Trace.{IsTrace};
 ghost use Rattle.ff_trace.specs.Within.{AreWithin};

@@ -10,7 +10,7 @@ use Rattle.ff_base.specs.declared.limits.LimitName.TheVariants.{FlashPages, Page
 use Rattle.ff_base.specs.declared.numbers.PageNo.{PageNo}
 use Rattle.ff_base.specs.declared.numbers.Ppn.{Ppn}
 use Rattle.ff_map.specs.Owners.{IsInverse, listed_owner, listed_place, released}
-use Rattle.ff_map.specs.PageMap.{IsMapSound, IsOneToOne}
+use Rattle.ff_map.specs.PageMap.{IsPageMapSound, IsOneToOne}
 use Rattle.ff_map.specs.declared.places.Mapping.{Mapping}
 
 same_page : (one other : PageNo) → one.0 ≡ other.0 → one ≡ other
@@ -45,7 +45,7 @@ one_to_one pages owners next inverse = record {
 -- what every map keeps, of its view
 pub sound_view : (pages : List (Option Mapping)) (owners : List (Option PageNo)) (next : ℕ)
     → IsInverse pages owners → IsAllowed Pages (length pages) → IsAllowed FlashPages (length owners)
-    → IsMapSound record { pages = pages; places = length owners; next_version = next }
+    → IsPageMapSound record { pages = pages; places = length owners; next_version = next }
 sound_view pages owners next inverse few_pages few_places = record {
   one_to_one = one_to_one pages owners next inverse;
   pages = few_pages;

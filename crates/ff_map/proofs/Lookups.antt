@@ -7,8 +7,8 @@ use Rattle.std.proofs.lemmas.Option.{same_Some, none-some}
 use Rattle.ff_base.specs.declared.numbers.PageNo.{PageNo}
 use Rattle.ff_base.specs.declared.numbers.Ppn.{Ppn}
 use Rattle.ff_map.specs.PageMap.{
-  MapView,
-  IsMapSound,
+  PageMapView,
+  IsPageMapSound,
   IsSwitched,
   drawn_map,
   mapping_of,
@@ -22,31 +22,31 @@ use Rattle.ff_map.specs.declared.places.Mapping.{Mapping}
 use Rattle.ff_map.specs.declared.places.Move.{Move}
 
 -- the page is mapped to this place
-pub record IsMappedAt (map : MapView) (page : PageNo) (at : Ppn) : Type 0 where
+pub record IsMappedAt (map : PageMapView) (page : PageNo) (at : Ppn) : Type 0 where
   pub version : ℕ
   pub is : mapping_of map page ≡ Some (record { at = at; version = version })
 
 -- a page after it was mapped
-pub mapping_of-with_mapping : (map : MapView) (page : PageNo) (mapping : Mapping)
+pub mapping_of-with_mapping : (map : PageMapView) (page : PageNo) (mapping : Mapping)
     → page.0 < length map.pages
     → mapping_of (with_mapping map page mapping) page ≡ Some mapping
 mapping_of-with_mapping map page mapping within =
     get_or-set_same map.pages page.0 (Some mapping) None within
 
 -- another page after one was mapped
-pub mapping_of-with_mapping_other : (map : MapView) (page : PageNo) (mapping : Mapping)
+pub mapping_of-with_mapping_other : (map : PageMapView) (page : PageNo) (mapping : Mapping)
     (other : PageNo) → other.0 ≢ page.0
     → mapping_of (with_mapping map page mapping) other ≡ mapping_of map other
 mapping_of-with_mapping_other map page mapping other apart =
     get_or-set_other map.pages page.0 other.0 (Some mapping) None apart
 
 -- a page after a version was drawn
-pub mapping_of-drawn_map : (map : MapView) (page : PageNo)
+pub mapping_of-drawn_map : (map : PageMapView) (page : PageNo)
     → mapping_of (drawn_map map) page ≡ mapping_of map page
 mapping_of-drawn_map map page = refl
 
 -- a drawn version leaves what a map keeps
-pub sound-drawn_map : (map : MapView) → IsMapSound map → IsMapSound (drawn_map map)
+pub sound-drawn_map : (map : PageMapView) → IsPageMapSound map → IsPageMapSound (drawn_map map)
 sound-drawn_map map sound = record {
   one_to_one = record {
     apart = λ at one other. sound.one_to_one.apart at one other;
@@ -57,18 +57,18 @@ sound-drawn_map map sound = record {
 }
 
 -- the place of a page whose mapping is known
-pub place_of_mapped : (map : MapView) (page : PageNo) (mapping : Mapping)
+pub place_of_mapped : (map : PageMapView) (page : PageNo) (mapping : Mapping)
     → mapping_of map page ≡ Some mapping → place_of map page ≡ Some mapping.at
 place_of_mapped map page mapping is =
     ap (λ (m : Option Mapping). option_map (λ (x : Mapping). x.at) m) is
 
 -- the version of a page whose mapping is known
-pub version_of_mapped : (map : MapView) (page : PageNo) (mapping : Mapping)
+pub version_of_mapped : (map : PageMapView) (page : PageNo) (mapping : Mapping)
     → mapping_of map page ≡ Some mapping → version_of map page ≡ Some mapping.version
 version_of_mapped map page mapping is =
     ap (λ (m : Option Mapping). option_map (λ (x : Mapping). x.version) m) is
 
-mapping_at : (map : MapView) (page : PageNo) (at : Ppn) (found : Option Mapping)
+mapping_at : (map : PageMapView) (page : PageNo) (at : Ppn) (found : Option Mapping)
     → mapping_of map page ≡ found → option_map (λ (x : Mapping). x.at) found ≡ Some at
     → IsMappedAt map page at
 mapping_at map page at None is there = absurd (none-some at there)
@@ -79,12 +79,12 @@ mapping_at map page at (Some mapping) is there =
     record { version = mapping.version; is = whole }
 
 -- a page's place gives its mapping
-pub mapped_at : (map : MapView) (page : PageNo) (at : Ppn) → place_of map page ≡ Some at
+pub mapped_at : (map : PageMapView) (page : PageNo) (at : Ppn) → place_of map page ≡ Some at
     → IsMappedAt map page at
 mapped_at map page at there = mapping_at map page at (mapping_of map page) refl there
 
 -- only a page of the map is mapped
-pub mapped_page_within : (map : MapView) (page : PageNo) (mapping : Mapping)
+pub mapped_page_within : (map : PageMapView) (page : PageNo) (mapping : Mapping)
     → mapping_of map page ≡ Some mapping → page.0 < length map.pages
 mapped_page_within map page mapping is = elim (cases_lt page.0 (length map.pages)) [
   | inl within ↦ within
@@ -92,13 +92,13 @@ mapped_page_within map page mapping is = elim (cases_lt page.0 (length map.pages
 ]
 
 -- a page is mapped to a place of the flash
-pub mapped_place_within : (map : MapView) → IsMapSound map → (page : PageNo) (mapping : Mapping)
+pub mapped_place_within : (map : PageMapView) → IsPageMapSound map → (page : PageNo) (mapping : Mapping)
     → mapping_of map page ≡ Some mapping → mapping.at.0 < map.places
 mapped_place_within map sound page mapping is =
     sound.one_to_one.within mapping.at page (place_of_mapped map page mapping is)
 
 -- two pages at one place are one page
-pub one_page_at : (map : MapView) → IsMapSound map → (one other : PageNo) (mapping second : Mapping)
+pub one_page_at : (map : PageMapView) → IsPageMapSound map → (one other : PageNo) (mapping second : Mapping)
     → mapping_of map one ≡ Some mapping → mapping_of map other ≡ Some second
     → mapping.at.0 ≡ second.at.0 → one ≡ other
 one_page_at map sound one other mapping second is also same =
@@ -182,7 +182,7 @@ version-moved (one ∷ rest) page old = elim (cases_Bool (eqb one.page.0 page.0)
 ]
 
 -- moves leave every page's version, and so which pages are mapped
-pub version_of-switched : (moves : List Move) (old new : MapView) → IsSwitched moves old new
+pub version_of-switched : (moves : List Move) (old new : PageMapView) → IsSwitched moves old new
     → (page : PageNo) → version_of new page ≡ version_of old page
 version_of-switched moves old new switched page =
     ap (λ (m : Option Mapping). option_map (λ (x : Mapping). x.version) m) (switched.mappings page)

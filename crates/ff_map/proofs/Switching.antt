@@ -7,7 +7,7 @@ use Rattle.std.proofs.lemmas.List.Elements.{All-cons, All-nil}
 use Rattle.std.proofs.lemmas.Option.{same_Some}
 use Rattle.ff_base.specs.declared.numbers.PageNo.{PageNo}
 use Rattle.ff_base.specs.declared.numbers.Ppn.{Ppn}
-use Rattle.ff_map.specs.PageMap.{MapView, mapping_of, IsFree, CanSwitch, IsSwitched, moved, moved_by}
+use Rattle.ff_map.specs.PageMap.{PageMapView, mapping_of, IsFree, CanSwitch, IsSwitched, moved, moved_by}
 use Rattle.ff_map.specs.declared.places.Mapping.{Mapping}
 use Rattle.ff_map.specs.declared.places.Move.{Move}
 
@@ -45,7 +45,7 @@ moved-append (first ∷ rest) one page old apart = elim (cases_Bool (eqb first.p
 ]
 
 -- no move leaves all as it is
-pub none_switched : (map : MapView) → IsSwitched [] map map
+pub none_switched : (map : PageMapView) → IsSwitched [] map map
 none_switched map = record { mappings = λ page. refl; pages = refl; places = refl; next_version = refl }
 
 -- a move's page or destination is none of the earlier moves'
@@ -58,7 +58,7 @@ earlier_apart key moves i d apart within k e below same =
     (sym (ap key (get_or-take i moves k e (omega arith))) ∙ same ∙ ap key (get_or_default moves i d e within))
 
 -- one more move
-pub more_switched : (moves : List Move) (i : ℕ) (d : Move) (before now after : MapView)
+pub more_switched : (moves : List Move) (i : ℕ) (d : Move) (before now after : PageMapView)
     → CanSwitch before moves → i < length moves
     → IsSwitched (take i moves) before now → IsSwitched (get_or moves i d ∷ []) now after
     → IsSwitched (take (i + 1) moves) before after
@@ -76,7 +76,7 @@ more_switched moves i d before now after can within so_far last =
     }
 
 -- the next move can be made
-pub next_ready : (moves : List Move) (i : ℕ) (d : Move) (before now : MapView)
+pub next_ready : (moves : List Move) (i : ℕ) (d : Move) (before now : PageMapView)
     → CanSwitch before moves → i < length moves
     → IsSwitched (take i moves) before now → CanSwitch now (get_or moves i d ∷ [])
 next_ready moves i d before now can within so_far =

@@ -3,11 +3,11 @@ use Rattle.std.specs.Prelude.{length}
 use Rattle.ff_base.specs.Geometry.{IsAllowed}
 use Rattle.ff_base.specs.declared.limits.LimitName.TheVariants.{FlashPages, Pages}
 use Rattle.ff_map.specs.Owners.{IsInverse}
-use Rattle.ff_map.specs.PageMap.{MapView}
+use Rattle.ff_map.specs.PageMap.{PageMapView}
 use Rattle.ff_map.specs.declared.page_map.PageMap.TheInside.{Inside}
 
 -- the map that the fields show
-abbrev pub view_of : Inside → MapView
+abbrev pub view_of : Inside → PageMapView
 view_of fields = record {
   pages = fields.pages.items;
   places = length fields.owners.items;

@@ -17,9 +17,9 @@ pub struct PageMap {
 }
 
 impl Model for PageMap {
-    ghost use Rattle.ff_map.specs.PageMap.{MapView};
+    ghost use Rattle.ff_map.specs.PageMap.{PageMapView};
 
-    ghost Value = { MapView };
+    ghost Value = { PageMapView };
 
     ghost use Rattle.ff_map.specs.PageMapFields.{view_of, IsKept};
 
@@ -29,7 +29,7 @@ impl Model for PageMap {
 }
 
 impl PageMap {
-    ghost use Rattle.ff_map.specs.PageMap.{mapping_of, place_of, version_of, IsOwner, IsMapSound, IsFreeBut, CanSwitch, IsSwitched, drawn_map, empty_map, with_mapping};
+    ghost use Rattle.ff_map.specs.PageMap.{mapping_of, place_of, version_of, IsOwner, IsPageMapSound, IsFreeBut, CanSwitch, IsSwitched, drawn_map, empty_map, with_mapping};
 
     /// No page is mapped, and the next version is 1.
     pub fn new(alloc: Global, geometry: &Geometry) -> Result<PageMap, NoMemory>
@@ -47,7 +47,7 @@ impl PageMap {
 
     /// What every map keeps. For the prover alone.
     pub fn known(&self)
-        ensures { IsMapSound self.now }
+        ensures { IsPageMapSound self.now }
     {
         let _ = &self.pages;
     }

@@ -18,9 +18,9 @@ use Rattle.ff_memory.specs.Located.{IsLocated}
 use Rattle.ff_memory.specs.Loads.{IsLoadBy}
 use Rattle.ff_memory.specs.declared.access.Access.{Access}
 use Rattle.ff_memory.specs.Memory.{MemoryView, entry_at, frame_set, home_at}
-use Rattle.ff_memory.specs.Places.{Holds, SamePlaces, line_from, serving_frame}
+use Rattle.ff_memory.specs.LineBytes.{Holds, SameLineBytes, line_from, serving_frame}
 use Rattle.ff_plb.specs.Plb.{entry_of}
-use Rattle.ff_table.specs.Table.{PageTableView, home_of}
+use Rattle.ff_table.specs.Table.{TableView, home_of}
 use Rattle.ff_memory.proofs.Sites.{IsAlike, SameAt, alike-same, same-device, sited-other}
 
 -- nothing changed but referred flags, and what a device may do by itself
@@ -36,7 +36,7 @@ pub record IsLike (m : MemoryView) (d : DeviceState) (m' : MemoryView) (d' : Dev
   pub pages : d'.pages ≡ d.pages
 
 home-like : (m : MemoryView) (d : DeviceState) (m' : MemoryView) (d' : DeviceState) (page : ℕ) → IsLike m d m' d' → home_at m' page ≡ home_at m page
-home-like m d m' d' page is = ap (λ (t : PageTableView). home_of t page) is.table
+home-like m d m' d' page is = ap (λ (t : TableView). home_of t page) is.table
 
 entry-like : (m : MemoryView) (d : DeviceState) (m' : MemoryView) (d' : DeviceState) (page : ℕ) → IsLike m d m' d' → entry_at m' page ≡ entry_at m page
 entry-like m d m' d' page is = ap (λ s. entry_of s page) is.slots
@@ -72,8 +72,8 @@ pub line-like : (frames frames' : List Frame) (d d' : DeviceState) (page line : 
 line-like frames frames' d d' page line None alike same = same.lines line
 line-like frames frames' d d' page line (Some frame) alike same = ap (λ (b : List ℕ). line_of b line) (alike frame).bytes
 
-pub like-places : (m : MemoryView) (d : DeviceState) (m' : MemoryView) (d' : DeviceState) → IsLike m d m' d' → SamePlaces m d m' d'
-like-places m d m' d' is page line within =
+pub like-lines : (m : MemoryView) (d : DeviceState) (m' : MemoryView) (d' : DeviceState) → IsLike m d m' d' → SameLineBytes m d m' d'
+like-lines m d m' d' is page line within =
     rw (is.table, is.slots) (line-like m.frames m'.frames d d' page line (serving_frame m page line) is.frames (is.device page))
 
 pub like-drained : (m : MemoryView) (d d' : DeviceState) → IsDrained d d' → IsLike m d m d'

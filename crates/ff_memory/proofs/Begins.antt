@@ -16,7 +16,7 @@ use Rattle.ff_lines.proofs.MaskLines.{has_line-no_lines}
 use Rattle.ff_memory.specs.Begins.{CanPromote, CanRetreat, IsDrainedAndPinned, IsPromoted, IsRetreated}
 use Rattle.ff_memory.specs.Located.{IsAtRest, IsLocated}
 use Rattle.ff_memory.specs.Memory.{IsMemorySound, MemoryView, entry_at, frame_set, home_at, home_set, numbered, slot_set}
-use Rattle.ff_memory.specs.Places.{Holds, frame_in_flight, line_from, place}
+use Rattle.ff_memory.specs.LineBytes.{Holds, frame_in_flight, line_from, line_bytes}
 use Rattle.ff_plb.specs.Plb.{entry_if, entry_of, slot_at}
 use Rattle.ff_plb.specs.Slot.{after_turn}
 use Rattle.ff_plb.specs.declared.slot.Slot.{Slot}
@@ -24,7 +24,7 @@ use Rattle.ff_plb.specs.declared.slot.Way.TheVariants.{Coming, Leaving}
 use Rattle.ff_plb.proofs.Entries.{apart-begin, entry-now, entry-other, entry_if-other}
 use Rattle.ff_table.specs.declared.table.Home.TheVariants.{Host}
 use Rattle.ff_memory.proofs.Finishes.{home-here, home-other, pinned-here, pinned-other, pinned-same}
-use Rattle.ff_memory.proofs.FlightMoves.{IsFlightStep, flight-move, place-after, place-before}
+use Rattle.ff_memory.proofs.FlightMoves.{IsFlightStep, flight-move, line-after, line-before}
 use Rattle.ff_memory.proofs.Flights.{IsEntryOf, as-coming, flies, page-within}
 use Rattle.ff_memory.proofs.Lifts.{KeepsLinesOf}
 use Rattle.ff_memory.proofs.Sites.{SameAt, one-page, same-device}
@@ -214,10 +214,10 @@ turned-keeps m d k s e way whole =
       move = flight-move m d k s t next d step;
       lines = λ j low.
           let bit : has_line (mask_others frame.dirty) j ≡ not (has_line frame.dirty j) = whole j low in
-          let was = place-before m d k s j e in
-          place-after m d k s t next d j step
+          let was = line-before m d k s j e in
+          line-after m d k s t next d j step
           ∙ rw bit (
-          leaving-lines (has_line frame.dirty j) next.frames d p j f (place m d p j)
+          leaving-lines (has_line frame.dirty j) next.frames d p j f (line_bytes m d p j)
           (λ dirty.
           let copied : has_line s.bits j ≡ true = coming.copied j low dirty in
           sym (was ∙ rw (way, copied) refl))

@@ -12,7 +12,7 @@ use Rattle.ff_lines.specs.Posts.{waits_in}
 use Rattle.ff_lines.proofs.DeviceLines.{line_at-pinned}
 use Rattle.ff_memory.specs.Advances.{IsFinished, finished_by}
 use Rattle.ff_memory.specs.Memory.{MemoryView, entry_at, home_at, numbered}
-use Rattle.ff_memory.specs.Places.{Holds}
+use Rattle.ff_memory.specs.LineBytes.{Holds}
 use Rattle.ff_plb.specs.Plb.{entry_if, entry_of, slot_at}
 use Rattle.ff_plb.specs.declared.slot.Slot.{Slot}
 use Rattle.ff_plb.specs.declared.slot.Way.{Way}
@@ -20,7 +20,7 @@ use Rattle.ff_plb.specs.declared.slot.Way.TheVariants.{Coming, Leaving}
 use Rattle.ff_plb.proofs.Entries.{entry-gone, entry-other, entry_if-other}
 use Rattle.ff_table.specs.declared.table.Home.{Home}
 use Rattle.ff_table.specs.declared.table.Home.TheVariants.{Ssd, Host}
-use Rattle.ff_memory.proofs.FlightMoves.{place-before}
+use Rattle.ff_memory.proofs.FlightMoves.{line-before}
 use Rattle.ff_memory.proofs.Flights.{IsEntryOf, as-coming, entry-is, flies, held-within, page-within}
 use Rattle.ff_memory.proofs.Lifts.{KeepsLinesOf}
 use Rattle.ff_memory.proofs.Sites.{SameAt, one-page}
@@ -92,7 +92,7 @@ finished_coming-keeps m d k s d' e way all is =
       };
       lines = λ j low.
           let copied : has_line s.bits j ≡ true = all j low in
-          let old = place-before m d k s j e in
+          let old = line-before m d k s j e in
           rw (home, gone) (sym (old ∙ rw (way, copied) refl));
     }
 
@@ -143,7 +143,7 @@ finished_leaving-keeps m d k s d' e way all is =
       };
       lines = λ j low.
           let copied : has_line s.bits j ≡ true = all j low in
-          let old = place-before m d k s j e in
+          let old = line-before m d k s j e in
           rw (home, gone) (line_at-pinned p false d d' p j is ∙ sym (old ∙ rw (way, copied) refl));
     }
 

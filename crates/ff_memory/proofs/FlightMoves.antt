@@ -9,7 +9,7 @@ use Rattle.ff_lines.specs.DeviceState.{DeviceState, line_at}
 use Rattle.ff_lines.specs.LineMask.{has_line}
 use Rattle.ff_memory.specs.Located.{IsFlyingBy}
 use Rattle.ff_memory.specs.Memory.{MemoryView, entry_at, home_at}
-use Rattle.ff_memory.specs.Places.{Holds, frame_in_flight, line_from, place}
+use Rattle.ff_memory.specs.LineBytes.{Holds, frame_in_flight, line_from, line_bytes}
 use Rattle.ff_plb.specs.Plb.{ArePagesApart, entry_if, entry_of, slot_at}
 use Rattle.ff_plb.specs.declared.slot.Slot.{Slot}
 use Rattle.ff_plb.specs.declared.slot.Way.TheVariants.{Coming, Leaving}
@@ -108,14 +108,14 @@ flight-move m d k s t m' d' step =
     }
 
 -- a line of the page, before and after
-pub place-before : (m : MemoryView) (d : DeviceState) (k : ℕ) (s : Slot) (line : ℕ) → IsEntryOf m d k s
-    → place m d s.page.0 line ≡ line_from m.frames d s.page.0 line (frame_in_flight s.way s.frame (has_line s.bits line))
-place-before m d k s line e = rw (entry-is m d k s e) refl
+pub line-before : (m : MemoryView) (d : DeviceState) (k : ℕ) (s : Slot) (line : ℕ) → IsEntryOf m d k s
+    → line_bytes m d s.page.0 line ≡ line_from m.frames d s.page.0 line (frame_in_flight s.way s.frame (has_line s.bits line))
+line-before m d k s line e = rw (entry-is m d k s e) refl
 
-pub place-after : (m : MemoryView) (d : DeviceState) (k : ℕ) (s t : Slot) (m' : MemoryView) (d' : DeviceState) (line : ℕ)
+pub line-after : (m : MemoryView) (d : DeviceState) (k : ℕ) (s t : Slot) (m' : MemoryView) (d' : DeviceState) (line : ℕ)
     → IsFlightStep m d k s t m' d'
-    → place m' d' s.page.0 line ≡ line_from m'.frames d' s.page.0 line (frame_in_flight t.way t.frame (has_line t.bits line))
-place-after m d k s t m' d' line step = rw (entry-after m d k s t m' d' step) refl
+    → line_bytes m' d' s.page.0 line ≡ line_from m'.frames d' s.page.0 line (frame_in_flight t.way t.frame (has_line t.bits line))
+line-after m d k s t m' d' line step = rw (entry-after m d k s t m' d' step) refl
 
 -- a line of a coming page stays: a copied line stays in the frame, a line that becomes copied is the device's
 pub coming-line : (b b' : Bool) (frames frames' : List Frame) (d d' : DeviceState) (p j f : ℕ) → (b ≡ true → b' ≡ true)

@@ -10,7 +10,7 @@ use Rattle.ff_lines.specs.DeviceState.{DeviceState, HasRoom, IsDevice}
 use Rattle.ff_memory.specs.Advances.{IsReady}
 use Rattle.ff_memory.specs.Located.{IsComing, IsFlyingBy, IsInFlight, IsLeaving, IsLocated}
 use Rattle.ff_memory.specs.Memory.{IsMemorySound, MemoryView, entry_at, home_at, numbered}
-use Rattle.ff_memory.specs.Places.{Holds}
+use Rattle.ff_memory.specs.LineBytes.{Holds}
 use Rattle.ff_plb.specs.Plb.{HasEntry}
 use Rattle.ff_plb.specs.declared.slot.Flight.{Flight}
 use Rattle.ff_plb.specs.declared.slot.Slot.{Slot}

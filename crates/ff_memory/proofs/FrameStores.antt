@@ -10,7 +10,7 @@ use Rattle.ff_lines.specs.LineMask.{has_line, mask_with}
 use Rattle.ff_lines.specs.Overlay.{overlaid}
 use Rattle.ff_lines.proofs.Overlaid.{length-overlaid}
 use Rattle.ff_memory.specs.Memory.{MemoryView}
-use Rattle.ff_memory.specs.Places.{frame_in_flight, line_from}
+use Rattle.ff_memory.specs.LineBytes.{frame_in_flight, line_from}
 use Rattle.ff_memory.specs.Stores.{DrainsIf, carried_frame, carries_by, stored_frame}
 use Rattle.ff_plb.specs.declared.slot.Way.TheVariants.{Coming}
 use Rattle.ff_memory.proofs.Alike.{IsLike, like-drained, like-none}
@@ -95,12 +95,12 @@ drains-like true m d d' is = like-drained m d d' is
 drains-like false m d d' is = rw is (like-none m d)
 
 -- what a store carries: the line that it lays the piece over is the page's line, or the piece is a whole line
-pub carried-place : (b : Bool) (size : ℕ) (frames : List Frame) (d : DeviceState) (p line f from : ℕ) (piece : List ℕ)
+pub carried-line : (b : Bool) (size : ℕ) (frames : List Frame) (d : DeviceState) (p line f from : ℕ) (piece : List ℕ)
     → length piece ≡ size → from + length piece ≤ 64 → length (line_at d p line) ≡ 64 → length (line_of (frame_at frames f).bytes line) ≡ 64
     → overlaid (base_of (carries_by Coming b size) (line_at d p line) (line_of (frame_at frames f).bytes line)) from piece
     ≡ overlaid (line_from frames d p line (frame_in_flight Coming f b)) from piece
-carried-place true size frames d p line f from piece is fits device frame = refl
-carried-place false size frames d p line f from piece is fits device frame = elim (cases_Bool (size == 64)) [
+carried-line true size frames d p line f from piece is fits device frame = refl
+carried-line false size frames d p line f from piece is fits device frame = elim (cases_Bool (size == 64)) [
   | inl whole ↦
       let count : length piece ≡ 64 = is ∙ eqb-true size 64 whole in
       rw whole (whole-same (line_of (frame_at frames f).bytes line) (line_at d p line) piece from frame device count fits)

@@ -10,7 +10,7 @@ use Rattle.ff_model.specs.declared.op.Reply.TheVariants.{Done}
 use Rattle.ff_plb.specs.Plb.{slot_at, with_slot}
 use Rattle.ff_plb.specs.Slot.{after_store}
 use Rattle.ff_plb.specs.declared.slot.Slot.{Slot}
-use Rattle.ff_table.specs.Table.{PageTableView, with_born}
+use Rattle.ff_table.specs.Table.{TableView, with_born}
 use Rattle.ff_memory.specs.Advances.{IsReady}
 use Rattle.ff_memory.specs.Memory.{MemoryView, born_set, entry_at, frame_set}
 use Rattle.ff_memory.specs.Stores.{DrainsIf, IsFrameStore, carried_frame, carries, stored_frame}
@@ -49,7 +49,7 @@ stored-in_flight m m1 m2 d d1 slots k s p line from piece access ready page some
     record {
       access_is = answer;
       frames = rw some (both ∙ pages s.page.0 page);
-      table = ap (λ (n : MemoryView). n.table) stored ∙ ap (λ (t : PageTableView). with_born p t) table1;
+      table = ap (λ (n : MemoryView). n.table) stored ∙ ap (λ (t : TableView). with_born p t) table1;
       slots = rw some (k, ready.has, slots2);
       capacity = ap (λ (n : MemoryView). n.capacity) stored ∙ capacity1;
       device = rw some drained;

@@ -25,7 +25,7 @@ use Rattle.ff_plb.specs.declared.slot.Way.TheVariants.{Coming, Leaving}
 use Rattle.ff_table.specs.Table.{is_born_in}
 use Rattle.ff_table.specs.declared.table.Home.{Home}
 use Rattle.ff_memory.specs.Located.{IsFlyingBy}
-use Rattle.ff_memory.proofs.FlightMoves.{IsFlightStep, coming-line, flight-move, leaving-line, place-after, place-before}
+use Rattle.ff_memory.proofs.FlightMoves.{IsFlightStep, coming-line, flight-move, leaving-line, line-after, line-before}
 use Rattle.ff_memory.proofs.Flights.{IsEntryOf, as-coming, as-leaving, flies, held-within}
 use Rattle.ff_memory.proofs.Lifts.{KeepsLinesOf, as-flying, landed_entry, landing-is, mask-cases, mask-here, mask-more, mask-other}
 use Rattle.ff_memory.proofs.Sites.{SameAt, same-device}
@@ -107,7 +107,7 @@ landed_in_frame-keeps m d k s flight m' d' e way flying within clear is =
     rw (memory, is.device) record {
       move = flight-move m d k s t next d step;
       lines = λ j low.
-          place-after m d k s t next d j step
+          line-after m d k s t next d j step
           ∙ rw way (
           coming-line (has_line s.bits j) (has_line t.bits j) m.frames next.frames d d p j s.frame
           (mask-more s.bits line j within)
@@ -117,7 +117,7 @@ landed_in_frame-keeps m d k s flight m' d' e way flying within clear is =
             | inr there ↦ absurd (let a = there in cc)
           ])
           refl)
-          ∙ sym (place-before m d k s j e);
+          ∙ sym (line-before m d k s j e);
     }
 
 -- a whole line is laid over a line
@@ -229,7 +229,7 @@ landed_on_device-keeps m d k s flight m' d' e way flying is =
     rw memory record {
       move = flight-move m d k s t next d' step;
       lines = λ j low.
-          place-after m d k s t next d' j step
+          line-after m d k s t next d' j step
           ∙ rw way (
           leaving-line (has_line s.bits j) (has_line t.bits j) m.frames next.frames d d' p j s.frame
           (mask-more s.bits line j within) (ap (λ (f : Frame). line_of f.bytes j) now)
@@ -238,5 +238,5 @@ landed_on_device-keeps m d k s flight m' d' e way flying is =
             | inr there ↦ absurd (let a = there in cc)
           ])
           (λ copied. posted-line_other post d d' p j is.device (λ page same. let a = ap (λ (i : ℕ). has_line s.bits i) same in let b = flight_is.1 in cc)))
-          ∙ sym (place-before m d k s j e);
+          ∙ sym (line-before m d k s j e);
     }

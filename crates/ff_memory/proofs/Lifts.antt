@@ -10,7 +10,7 @@ use Rattle.ff_lines.proofs.MaskLines.{has_line-mask_with}
 use Rattle.ff_memory.specs.Advances.{IsDropped, IsLifted, LiftsFrom, source_line}
 use Rattle.ff_memory.specs.Located.{IsComing, IsFlyingBy}
 use Rattle.ff_memory.specs.Memory.{MemoryView, home_at, slot_set}
-use Rattle.ff_memory.specs.Places.{frame_in_flight, place}
+use Rattle.ff_memory.specs.LineBytes.{frame_in_flight, line_bytes}
 use Rattle.ff_plb.specs.Slot.{after_landing, after_lift, landed_with}
 use Rattle.ff_plb.specs.declared.slot.Flight.{Flight}
 use Rattle.ff_plb.specs.declared.slot.Slot.{Slot}
@@ -18,7 +18,7 @@ use Rattle.ff_plb.specs.declared.slot.Way.{Way}
 use Rattle.ff_plb.specs.declared.slot.Way.TheVariants.{Coming, Leaving}
 use Rattle.ff_table.specs.declared.table.Home.{Home}
 use Rattle.ff_memory.proofs.Alike.{IsLike, like-drained, like-none, line-like}
-use Rattle.ff_memory.proofs.FlightMoves.{IsFlightStep, coming-line, flight-move, place-after, place-before}
+use Rattle.ff_memory.proofs.FlightMoves.{IsFlightStep, coming-line, flight-move, line-after, line-before}
 use Rattle.ff_memory.proofs.Flights.{IsEntryOf, as-coming, entry-is, flies}
 use Rattle.ff_memory.proofs.Moves.{IsMove}
 use Rattle.ff_memory.proofs.Sites.{alike-same, flying-other}
@@ -26,7 +26,7 @@ use Rattle.ff_memory.proofs.Sites.{alike-same, flying-other}
 -- a page moves, and its lines stay
 pub record KeepsLinesOf (p f : ℕ) (m : MemoryView) (d : DeviceState) (m' : MemoryView) (d' : DeviceState) : Type 0 where
   pub move : IsMove p f m d m' d'
-  pub lines : (line : ℕ) → line < 64 → place m' d' p line ≡ place m d p line
+  pub lines : (line : ℕ) → line < 64 → line_bytes m' d' p line ≡ line_bytes m d p line
 
 -- the page's pin
 pub pinned-of : (m : MemoryView) (d : DeviceState) (k : ℕ) (s : Slot) → IsEntryOf m d k s → d.pinned s.page.0 ≡ true
@@ -90,10 +90,10 @@ lifted-keeps m d k s m' d' e is =
     rw is.memory record {
       move = flight-move m d k s (after_lift flight s) (slot_set k (Some (after_lift flight s)) m) d' step;
       lines = λ line within.
-          place-after m d k s (after_lift flight s) (slot_set k (Some (after_lift flight s)) m) d' line step
+          line-after m d k s (after_lift flight s) (slot_set k (Some (after_lift flight s)) m) d' line step
           ∙ line-like m.frames m.frames d d' s.page.0 line (frame_in_flight s.way s.frame (has_line s.bits line))
           (λ g. alike-same (frame_at m.frames g) (frame_at m.frames g) refl) (like.device s.page.0)
-          ∙ sym (place-before m d k s line e);
+          ∙ sym (line-before m d k s line e);
     }
 
 -- an entry after its flight's end
@@ -163,10 +163,10 @@ dropped-keeps m d k s flight m' d' e way flying within set is =
     rw (memory, is.device) record {
       move = flight-move m d k s t (slot_set k (Some t) m) d step;
       lines = λ line low.
-          place-after m d k s t (slot_set k (Some t) m) d line step
+          line-after m d k s t (slot_set k (Some t) m) d line step
           ∙ rw way (
           coming-line (has_line s.bits line) (has_line t.bits line) m.frames m.frames d d p line s.frame
           (mask-more s.bits flight.line line within) (λ b. refl)
           (λ b b'. absurd (let a = mask-same s.bits flight.line line within set b' in cc)) refl)
-          ∙ sym (place-before m d k s line e);
+          ∙ sym (line-before m d k s line e);
     }

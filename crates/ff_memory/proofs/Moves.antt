@@ -9,7 +9,7 @@ use Rattle.ff_lines.specs.DeviceState.{DeviceState}
 use Rattle.ff_lines.specs.LineMask.{has_line}
 use Rattle.ff_memory.specs.Located.{IsLocated, IsSited}
 use Rattle.ff_memory.specs.Memory.{MemoryView, entry_at, home_at}
-use Rattle.ff_memory.specs.Places.{Holds, SamePlaces, frame_of_page, line_from, place, serving_frame}
+use Rattle.ff_memory.specs.LineBytes.{Holds, SameLineBytes, frame_of_page, line_from, line_bytes, serving_frame}
 use Rattle.ff_table.specs.Table.{born_count_in, is_born_in, marks_of}
 use Rattle.ff_memory.proofs.Sites.{SameAt, alike-same, serving-holds, sited-other}
 
@@ -131,15 +131,15 @@ line-other p f m d m' d' located move q line other (Some frame) is =
     ap (λ (x : Frame). line_of x.bytes line) (move.frames frame (apart p f m d m' d' move q frame other holds))
 
 -- the lines of other pages stay
-pub place-other : (p f : ℕ) (m : MemoryView) (d : DeviceState) (m' : MemoryView) (d' : DeviceState) → IsLocated m d
-    → IsMove p f m d m' d' → (q line : ℕ) → q ≢ p → place m' d' q line ≡ place m d q line
-place-other p f m d m' d' located move q line other =
+pub line_bytes-other : (p f : ℕ) (m : MemoryView) (d : DeviceState) (m' : MemoryView) (d' : DeviceState) → IsLocated m d
+    → IsMove p f m d m' d' → (q line : ℕ) → q ≢ p → line_bytes m' d' q line ≡ line_bytes m d q line
+line_bytes-other p f m d m' d' located move q line other =
     rw (move.homes q other, move.entries q other) (line-other p f m d m' d' located move q line other (serving_frame m q line) refl)
 
 -- every line stays, where those of the page do
-pub move-places : (p f : ℕ) (m : MemoryView) (d : DeviceState) (m' : MemoryView) (d' : DeviceState) → IsLocated m d
-    → IsMove p f m d m' d' → ((line : ℕ) → line < 64 → place m' d' p line ≡ place m d p line) → SamePlaces m d m' d'
-move-places p f m d m' d' located move lines q line within = elim (cases_eq q p) [
+pub move-lines : (p f : ℕ) (m : MemoryView) (d : DeviceState) (m' : MemoryView) (d' : DeviceState) → IsLocated m d
+    → IsMove p f m d m' d' → ((line : ℕ) → line < 64 → line_bytes m' d' p line ≡ line_bytes m d p line) → SameLineBytes m d m' d'
+move-lines p f m d m' d' located move lines q line within = elim (cases_eq q p) [
   | inl same ↦ rw same (lines line within)
-  | inr other ↦ place-other p f m d m' d' located move q line other
+  | inr other ↦ line_bytes-other p f m d m' d' located move q line other
 ]

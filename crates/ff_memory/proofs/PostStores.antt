@@ -9,7 +9,7 @@ use Rattle.ff_lines.specs.Overlay.{overlaid}
 use Rattle.ff_lines.specs.declared.post.Post.{Post}
 use Rattle.ff_memory.specs.Located.{IsFlyingBy, IsLocated, IsSited}
 use Rattle.ff_memory.specs.Memory.{MemoryView, born_set, entry_at, home_at, numbered}
-use Rattle.ff_memory.specs.Places.{Holds, frame_for, frame_in_flight, line_from, serving_frame, store_frame_for, store_in_flight, storing_frame}
+use Rattle.ff_memory.specs.LineBytes.{Holds, frame_for, frame_in_flight, line_from, serving_frame, store_frame_for, store_in_flight, storing_frame}
 use Rattle.ff_memory.specs.Stores.{IsFrameStore, IsStoreBy, IsStoreGiven, StoresBy}
 use Rattle.ff_memory.specs.declared.access.Access.{Access}
 use Rattle.ff_plb.specs.declared.slot.Slot.{Slot}

@@ -10,7 +10,7 @@ use Rattle.ff_table.specs.declared.table.Home.TheVariants.{Ssd, Host}
 use Rattle.ff_memory.specs.Begins.{CanRetreat}
 use Rattle.ff_memory.specs.Located.{IsLocated}
 use Rattle.ff_memory.specs.Memory.{MemoryView, entry_at, home_at}
-use Rattle.ff_memory.specs.Places.{Holds, frame_of_home}
+use Rattle.ff_memory.specs.LineBytes.{Holds, frame_of_home}
 
 home-is : (home : Home) (frame : ℕ) → frame_of_home home ≡ Some frame → home ≡ Host frame
 home-is Ssd frame is = absurd (none-some frame is)

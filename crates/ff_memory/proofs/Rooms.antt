@@ -10,7 +10,7 @@ use Rattle.ff_lines.proofs.PageCounts.{count_below-part}
 use Rattle.ff_memory.specs.Located.{IsLocated}
 use Rattle.ff_memory.specs.Memory.{MemoryView}
 use Rattle.ff_memory.specs.Stores.{is_store_refused}
-use Rattle.ff_table.specs.Table.{IsPageTableSound, PageTableView, born_count_in, is_born_in, with_born}
+use Rattle.ff_table.specs.Table.{IsTableSound, TableView, born_count_in, is_born_in, with_born}
 
 -- the pages that are true in a list, counted by number and counted in the list
 count_below-take : (born : List Bool) (n : ℕ) → n ≤ length born
@@ -32,7 +32,7 @@ count_below-list born =
     count_below-take born (length born) (omega arith) ∙ ap (λ xs. count_by (λ b. b) xs) (take_all (length born) born (omega arith))
 
 -- a page that is born now, or was before
-pub born-more : (table : PageTableView) (page q : ℕ) → IsPageTableSound table → page < length table.homes → is_born_in table q ≡ true
+pub born-more : (table : TableView) (page q : ℕ) → IsTableSound table → page < length table.homes → is_born_in table q ≡ true
     → is_born_in (with_born page table) q ≡ true
 born-more table page q sound within born = elim (cases_eq q page) [
   | inl same ↦
@@ -41,7 +41,7 @@ born-more table page q sound within born = elim (cases_eq q page) [
   | inr other ↦ get_or-set_other table.born page q true false other ∙ born
 ]
 
-pub born-now : (table : PageTableView) (page : ℕ) → IsPageTableSound table → page < length table.homes
+pub born-now : (table : TableView) (page : ℕ) → IsTableSound table → page < length table.homes
     → is_born_in (with_born page table) page ≡ true
 born-now table page sound within =
     let size = sound.born_or_not in get_or-set_same table.born page true false (omega arith)
@@ -55,7 +55,7 @@ count-set born page was within is =
     rw (← is) (sum_by-set weight born page true false within)
 
 -- no more pages are born than may be
-pub few-born : (m : MemoryView) (d : DeviceState) (page : ℕ) → IsPageTableSound m.table → IsLocated m d
+pub few-born : (m : MemoryView) (d : DeviceState) (page : ℕ) → IsTableSound m.table → IsLocated m d
     → page < length m.table.homes → is_store_refused m page ≡ false → born_count_in (with_born page m.table) ≤ m.capacity
 few-born m d page sound located within allowed =
     let few = located.accounts.few_born in
@@ -72,7 +72,7 @@ few-born m d page sound located within allowed =
           ]
     ]
 
-pub with-born : (m : MemoryView) (d : DeviceState) (page q : ℕ) → IsPageTableSound m.table → IsLocated m d
+pub with-born : (m : MemoryView) (d : DeviceState) (page q : ℕ) → IsTableSound m.table → IsLocated m d
     → page < length m.table.homes → with_page page d.written q ≡ true → is_born_in (with_born page m.table) q ≡ true
 with-born m d page q sound located within is = elim (or_cases (q == page) (d.written q) is) [
   | inl same ↦
@@ -82,7 +82,7 @@ with-born m d page q sound located within is = elim (or_cases (q == page) (d.wri
 ]
 
 -- the device has room for a page that isn't refused
-pub has-room : (m : MemoryView) (d : DeviceState) (page : ℕ) → IsPageTableSound m.table → IsLocated m d
+pub has-room : (m : MemoryView) (d : DeviceState) (page : ℕ) → IsTableSound m.table → IsLocated m d
     → page < length m.table.homes → is_store_refused m page ≡ false → HasRoom d page
 has-room m d page sound located within allowed =
     let born : List Bool = set m.table.born page true in

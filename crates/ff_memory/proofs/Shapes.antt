@@ -9,7 +9,7 @@ use Rattle.ff_plb.specs.declared.slot.Flight.{Flight}
 use Rattle.ff_plb.specs.declared.slot.Slot.{Slot}
 use Rattle.ff_plb.specs.declared.slot.Way.{Way}
 use Rattle.ff_plb.specs.declared.slot.Way.TheVariants.{Coming, Leaving}
-use Rattle.ff_table.specs.Table.{PageTableView}
+use Rattle.ff_table.specs.Table.{TableView}
 use Rattle.ff_table.specs.declared.table.Home.{Home}
 use Rattle.ff_memory.specs.Advances.{Advances, AdvancesBy, FinishesOrLifts, LandsBy, finished_by}
 use Rattle.ff_memory.specs.Begins.{IsPromoted, IsRetreated, turned_at, turned_by}
@@ -70,7 +70,7 @@ pub shape-stored : (refused : Bool) (to : Option ℕ) (resident : Bool) (page li
 shape-stored true to resident page line from piece position m d access m' d' is = rw is.memory (same-shape m)
 shape-stored false (Some frame) resident page line from piece position m d access m' d' is = record {
   frames = ap length is.frames ∙ length-set m.frames frame _;
-  homes = ap (λ (t : PageTableView). length t.homes) is.table;
+  homes = ap (λ (t : TableView). length t.homes) is.table;
   slots = slots-hit _ line m.slots m'.slots is.slots;
   capacity = is.capacity;
 }
@@ -90,7 +90,7 @@ shape-marked false page lines m d access m' d' is = rw is.memory (same-shape m)
 pub shape-unreferred : (these : ℕ → Bool) (m m' : MemoryView) → IsUnreferred these m m' → SameShape m m'
 shape-unreferred these m m' is = record {
   frames = is.size;
-  homes = ap (λ (t : PageTableView). length t.homes) is.table;
+  homes = ap (λ (t : TableView). length t.homes) is.table;
   slots = ap length is.slots;
   capacity = is.capacity;
 }

@@ -11,7 +11,7 @@ use Rattle.ff_lines.specs.LineMask.{has_line}
 use Rattle.ff_lines.specs.declared.line_mask.LineMask.{LineMask}
 use Rattle.ff_memory.specs.Located.{IsClean, IsComingFlight, IsFlyingBy, IsLeavingFlight, IsLocated, IsSited}
 use Rattle.ff_memory.specs.Memory.{MemoryView, entry_at, home_at, numbered}
-use Rattle.ff_memory.specs.Places.{Holds, frame_for, frame_in_flight, frame_of_page, serving_frame}
+use Rattle.ff_memory.specs.LineBytes.{Holds, frame_for, frame_in_flight, frame_of_page, serving_frame}
 use Rattle.ff_plb.specs.declared.slot.Flight.{Flight}
 use Rattle.ff_plb.specs.declared.slot.Slot.{Slot}
 use Rattle.ff_plb.specs.declared.slot.Way.{Way}

@@ -5,7 +5,7 @@ use Rattle.ff_lines.specs.LineMask.{has_line}
 use Rattle.ff_memory.specs.Advances.{AdvancesBy, FinishesOrLifts, LandsBy}
 use Rattle.ff_memory.specs.Located.{IsLocated}
 use Rattle.ff_memory.specs.Memory.{MemoryView}
-use Rattle.ff_memory.specs.Places.{SamePlaces}
+use Rattle.ff_memory.specs.LineBytes.{SameLineBytes}
 use Rattle.ff_memory.specs.declared.access.What.{What}
 use Rattle.ff_memory.specs.declared.access.What.TheVariants.{Finished, Landed, Dropped, Lifted, Started, Worked, Drained, Sealed, Collected}
 use Rattle.ff_plb.specs.declared.slot.Flight.{Flight}
@@ -16,7 +16,7 @@ use Rattle.ff_memory.proofs.Finishes.{finished-keeps}
 use Rattle.ff_memory.proofs.Flights.{IsEntryOf, entry-ready}
 use Rattle.ff_memory.proofs.Landings.{landed_in_frame-keeps, landed_on_device-keeps}
 use Rattle.ff_memory.proofs.Lifts.{KeepsLinesOf, dropped-keeps, lifted-keeps}
-use Rattle.ff_memory.proofs.Moves.{move-located, move-places}
+use Rattle.ff_memory.proofs.Moves.{move-located, move-lines}
 
 finishes_or_lifts-keeps : (what : What) (m : MemoryView) (d : DeviceState) (k : ℕ) (s : Slot) (m' : MemoryView) (d' : DeviceState)
     → IsEntryOf m d k s → FinishesOrLifts what k s m d m' d' → KeepsLinesOf s.page.0 s.frame m d m' d'
@@ -52,8 +52,8 @@ advanced-located what m d k s m' d' e is =
     let keeps = advances-keeps s.flight what m d k s m' d' e refl is in
     move-located s.page.0 s.frame m d m' d' e.located keeps.move
 
-pub advanced-places : (what : What) (m : MemoryView) (d : DeviceState) (k : ℕ) (s : Slot) (m' : MemoryView) (d' : DeviceState)
-    → IsEntryOf m d k s → AdvancesBy s.flight k s m d what m' d' → SamePlaces m d m' d'
-advanced-places what m d k s m' d' e is =
+pub advanced-lines : (what : What) (m : MemoryView) (d : DeviceState) (k : ℕ) (s : Slot) (m' : MemoryView) (d' : DeviceState)
+    → IsEntryOf m d k s → AdvancesBy s.flight k s m d what m' d' → SameLineBytes m d m' d'
+advanced-lines what m d k s m' d' e is =
     let keeps = advances-keeps s.flight what m d k s m' d' e refl is in
-    move-places s.page.0 s.frame m d m' d' e.located keeps.move keeps.lines
+    move-lines s.page.0 s.frame m d m' d' e.located keeps.move keeps.lines

@@ -16,7 +16,7 @@ use Rattle.ff_lines.specs.Overlay.{overlaid}
 use Rattle.ff_lines.proofs.DeviceLines.{length-line_at}
 use Rattle.ff_memory.specs.Located.{IsAtRest, IsFlyingBy, IsInFlight, IsLeavingFlight, IsComingFlight, IsLocated, IsSited}
 use Rattle.ff_memory.specs.Memory.{MemoryView, entry_at, home_at}
-use Rattle.ff_memory.specs.Places.{Holds, frame_in_flight, frame_of_page, line_from, place, store_in_flight}
+use Rattle.ff_memory.specs.LineBytes.{Holds, frame_in_flight, frame_of_page, line_from, line_bytes, store_in_flight}
 use Rattle.ff_memory.specs.Stores.{IsFrameStore, IsStoreGiven, IsStored, carried_frame, carries, carries_by, stored_frame}
 use Rattle.ff_memory.specs.declared.access.Access.{Access}
 use Rattle.ff_plb.specs.Plb.{entry_of}
@@ -26,14 +26,14 @@ use Rattle.ff_plb.specs.declared.slot.Slot.{Slot}
 use Rattle.ff_plb.specs.declared.slot.Way.{Way}
 use Rattle.ff_plb.specs.declared.slot.Way.TheVariants.{Coming, Leaving}
 use Rattle.ff_plb.proofs.Entries.{entry-there}
-use Rattle.ff_table.specs.Table.{PageTableView, home_of, marks_of}
+use Rattle.ff_table.specs.Table.{TableView, home_of, marks_of}
 use Rattle.ff_table.specs.declared.table.Home.{Home}
 use Rattle.ff_table.specs.declared.table.Home.TheVariants.{Host}
 use Rattle.ff_memory.proofs.FlightMoves.{coming-line, entries-set, entry-set, leaving-line}
 use Rattle.ff_memory.proofs.Flights.{held-within}
-use Rattle.ff_memory.proofs.FrameStores.{IsWritten, base_of, carried-place, drains-like, is-written, written-clean, written-dirty, written-dirty_cases}
+use Rattle.ff_memory.proofs.FrameStores.{IsWritten, base_of, carried-line, drains-like, is-written, written-clean, written-dirty, written-dirty_cases}
 use Rattle.ff_memory.proofs.Lifts.{mask-cases, mask-here, mask-more, mask-other}
-use Rattle.ff_memory.proofs.Moves.{IsMove, move-located, place-other}
+use Rattle.ff_memory.proofs.Moves.{IsMove, move-located, line_bytes-other}
 use Rattle.ff_memory.proofs.Rooms.{born-more, born-now, few-born}
 use Rattle.ff_memory.proofs.Sites.{SameAt, one-page}
 
@@ -84,7 +84,7 @@ store-move f p line from piece m d access m' d' given is after entries frame som
     let table = given.sound.table_sound in
     let located = given.located in
     record {
-      homes = λ q other. ap (λ (t : PageTableView). home_of t q) is.table;
+      homes = λ q other. ap (λ (t : TableView). home_of t q) is.table;
       entries = entries;
       frames = after.others;
       owner = λ q held. one-page m.frames f p q after.held held;
@@ -100,8 +100,8 @@ store-move f p line from piece m d access m' d' given is after entries frame som
       born_more = λ q born. rw is.table (born-more m.table p q table given.within born);
       few_born = rw (is.table, is.capacity) (few-born m d p table located given.within given.allowed);
       room = like.room ∙ located.accounts.room ∙ sym is.capacity;
-      pages = like.pages ∙ located.accounts.pages ∙ sym (ap (λ (t : PageTableView). length t.homes) is.table);
-      marks = λ q. ap (λ (t : PageTableView). marks_of t q) is.table;
+      pages = like.pages ∙ located.accounts.pages ∙ sym (ap (λ (t : TableView). length t.homes) is.table);
+      marks = λ q. ap (λ (t : TableView). marks_of t q) is.table;
       unmarked = λ marked. frame ∙ located.accounts.marked_home p marked;
     }
 
@@ -111,15 +111,15 @@ pub record StoresLine (p f line from : ℕ) (piece : List ℕ) (m : MemoryView) 
   pub stored : IsStored p line from piece m d m' d'
 
 pub stores-line : (p f line from : ℕ) (piece : List ℕ) (m : MemoryView) (d : DeviceState) (m' : MemoryView) (d' : DeviceState)
-    → IsLocated m d → IsMove p f m d m' d' → place m' d' p line ≡ overlaid (place m d p line) from piece
-    → ((j : ℕ) → j < 64 → j ≢ line → place m' d' p j ≡ place m d p j) → StoresLine p f line from piece m d m' d'
+    → IsLocated m d → IsMove p f m d m' d' → line_bytes m' d' p line ≡ overlaid (line_bytes m d p line) from piece
+    → ((j : ℕ) → j < 64 → j ≢ line → line_bytes m' d' p j ≡ line_bytes m d p j) → StoresLine p f line from piece m d m' d'
 stores-line p f line from piece m d m' d' located move here others = record {
   located = move-located p f m d m' d' located move;
   stored = record {
     here = here;
     others = λ q j low apart. elim (cases_eq q p) [
       | inl same ↦ rw same (others j low (apart same))
-      | inr other ↦ place-other p f m d m' d' located move q j other
+      | inr other ↦ line_bytes-other p f m d m' d' located move q j other
     ];
   };
 }
@@ -136,7 +136,7 @@ rest-stores f p line from piece m d access m' d' given home none is =
     let like = drains-like (carries (entry_at m p) line (length piece)) m d d' is.device in
     let slots : m'.slots ≡ m.slots = rw none at is.slots in
     let written : IsWritten line from piece (line_of old.bytes line) old new = rw none at after.written in
-    let home' : home_at m' p ≡ Host f = ap (λ (t : PageTableView). home_of t p) is.table ∙ home in
+    let home' : home_at m' p ≡ Host f = ap (λ (t : TableView). home_of t p) is.table ∙ home in
     let entry : (q : ℕ) → entry_at m' q ≡ entry_at m q = λ q. ap (λ s. entry_of s q) slots in
     let none' : entry_at m' p ≡ None = entry p ∙ none in
     let move = store-move f p line from piece m d access m' d' given is after (λ q other. entry q)
@@ -213,7 +213,7 @@ store-here : (way : Way) (b : Bool) (m m' : MemoryView) (d d' : DeviceState) (p 
     ≡ overlaid (line_from m.frames d p line (frame_in_flight way f b)) from piece
 store-here Coming b m m' d d' p f line from piece s low fits bit goes device frame here =
     let set = mask-here s.bits line low in
-    rw set (here ∙ carried-place b (length piece) m.frames d p line f from piece refl fits device frame)
+    rw set (here ∙ carried-line b (length piece) m.frames d p line f from piece refl fits device frame)
 store-here Leaving true m m' d d' p f line from piece s low fits bit goes device frame here = absurd (none-some f goes)
 store-here Leaving false m m' d d' p f line from piece s low fits bit goes device frame here = rw bit here
 
@@ -256,7 +256,7 @@ flight-stores f p line from piece m d access m' d' s given some goes is =
     ∙ entry-set m.slots hit.0 s t apart hit.1.in_range hit.1.there refl in
     let entries : (q : ℕ) → q ≢ p → entry_at m' q ≡ entry_at m q =
     λ q other. ap (λ x. entry_of x q) hit.2 ∙ entries-set m.slots hit.0 s t hit.1.there refl q (λ e. other (e ∙ page)) in
-    let home : home_at m' p ≡ home_at m p = ap (λ (x : PageTableView). home_of x p) is.table in
+    let home : home_at m' p ≡ home_at m p = ap (λ (x : TableView). home_of x p) is.table in
     let written = rw some at after.written in
     let by_way : IsFlyingBy s.way old d p (home_at m p) s = subst (λ (i : ℕ). IsFlyingBy s.way (frame_at m.frames i) d p (home_at m p) s) at flight.by_way in
     let pinned : d.pinned p ≡ true = rw some at (given.located.pins p) in

@@ -12,19 +12,19 @@ use Rattle.ff_lines.specs.DeviceState.{DeviceState}
 use Rattle.ff_lines.specs.Works.{KeepsLines}
 use Rattle.ff_memory.specs.Located.{IsLocated}
 use Rattle.ff_memory.specs.Memory.{MemoryView, entry_at, fresh_memory, home_at, numbered}
-use Rattle.ff_memory.specs.Places.{Holds, SamePlaces}
+use Rattle.ff_memory.specs.LineBytes.{Holds, SameLineBytes}
 use Rattle.ff_plb.specs.Plb.{entry_of, slot_at}
 use Rattle.ff_plb.specs.declared.slot.Slot.{Slot}
 use Rattle.ff_plb.proofs.Finding.{none-found}
 use Rattle.ff_plb.specs.Plb.{entry_if}
 use Rattle.ff_table.specs.declared.table.Home.TheVariants.{Ssd}
-use Rattle.ff_memory.proofs.Alike.{like-located, like-places, like-worked}
+use Rattle.ff_memory.proofs.Alike.{like-located, like-lines, like-worked}
 
 pub located-worked : (m : MemoryView) (d d' : DeviceState) → IsLocated m d → KeepsLines d d' → IsLocated m d'
 located-worked m d d' located is = like-located m d m d' located (like-worked m d d' is)
 
-pub places-worked : (m : MemoryView) (d d' : DeviceState) → KeepsLines d d' → SamePlaces m d m d'
-places-worked m d d' is = like-places m d m d' (like-worked m d d' is)
+pub lines-worked : (m : MemoryView) (d d' : DeviceState) → KeepsLines d d' → SameLineBytes m d m d'
+lines-worked m d d' is = like-lines m d m d' (like-worked m d d' is)
 
 empty-slot : (slots k : ℕ) → slot_at (replicate slots None) k ≡ None
 empty-slot slots k = elim (cases_lt k slots) [

@@ -13,7 +13,7 @@ use Rattle.ff_plb.specs.declared.slot.Way.{Way}
 use Rattle.ff_plb.specs.declared.slot.Way.TheVariants.{Coming, Leaving}
 use Rattle.ff_table.specs.declared.table.Home.TheVariants.{Ssd, Host}
 use Rattle.ff_memory.specs.Memory.{MemoryView, frame_set, home_set, slot_set}
-use Rattle.ff_memory.specs.Places.{Holds}
+use Rattle.ff_memory.specs.LineBytes.{Holds}
 use Rattle.ff_memory.specs.declared.access.What.{What}
 use Rattle.ff_memory.specs.declared.access.What.TheVariants.{Finished, Landed, Dropped, Lifted}
 

@@ -1,9 +1,9 @@
 pub mod Advances
 pub mod Begins
+pub mod LineBytes
 pub mod Loads
 pub mod Located
 pub mod Marking
 pub mod Memory
 pub mod MemoryFields
-pub mod Places
 pub mod Stores

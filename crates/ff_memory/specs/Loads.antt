@@ -4,7 +4,7 @@ use Rattle.ff_frames.specs.Frame.{referred_frame}
 use Rattle.ff_lines.specs.DeviceState.{DeviceState, IsDrained}
 use Rattle.ff_model.specs.declared.op.Reply.TheVariants.{Bytes}
 use Rattle.ff_memory.specs.Memory.{MemoryView, frame_set, numbered}
-use Rattle.ff_memory.specs.Places.{line_in_page, page_of, place, place_in_line, serving_frame}
+use Rattle.ff_memory.specs.LineBytes.{line_in_page, page_of, line_bytes, offset_in_line, serving_frame}
 use Rattle.ff_memory.specs.declared.access.Access.{Access}
 use Rattle.ff_memory.specs.declared.access.Access.TheVariants.{Served, Miss}
 use Rattle.ff_memory.specs.declared.access.Side.TheVariants.{Device, Host}
@@ -12,8 +12,8 @@ use Rattle.ff_memory.specs.declared.access.Side.TheVariants.{Device, Host}
 -- the bytes of a span
 abbrev pub span_of : MemoryView → DeviceState → ℕ → ℕ → List ℕ
 span_of m d at len =
-    slice_range (place m d (page_of at) (line_in_page at))
-    (place_in_line at) (place_in_line at + len)
+    slice_range (line_bytes m d (page_of at) (line_in_page at))
+    (offset_in_line at) (offset_in_line at + len)
 
 -- a page that isn't resident or isn't home was missed, and nothing was done
 pub record IsMissed (page : ℕ) (m : MemoryView) (d : DeviceState) (access : Access)

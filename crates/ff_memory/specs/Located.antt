@@ -15,7 +15,7 @@ use Rattle.ff_table.specs.Table.{born_count_in, is_born_in, marks_of}
 use Rattle.ff_table.specs.declared.table.Home.{Home}
 use Rattle.ff_table.specs.declared.table.Home.TheVariants.{Ssd, Host}
 use Rattle.ff_memory.specs.Memory.{MemoryView, entry_at, home_at}
-use Rattle.ff_memory.specs.Places.{Holds, frame_of_page}
+use Rattle.ff_memory.specs.LineBytes.{Holds, frame_of_page}
 
 -- the frame's lines that aren't dirty are the device's
 abbrev pub IsClean : Frame → DeviceState → ℕ → Type 0

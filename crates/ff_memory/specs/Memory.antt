@@ -6,20 +6,20 @@ use Rattle.ff_frames.specs.Frames.{AreFramesSound, frame_at, with_frame}
 use Rattle.ff_frames.specs.declared.frame.Frame.{Frame}
 use Rattle.ff_plb.specs.Plb.{ArePagesApart, entry_of, with_slot}
 use Rattle.ff_plb.specs.declared.slot.Slot.{Slot}
-use Rattle.ff_table.specs.Table.{PageTableView, IsPageTableSound, fresh_table, home_of, with_born, with_home, with_marks}
+use Rattle.ff_table.specs.Table.{TableView, IsTableSound, fresh_table, home_of, with_born, with_home, with_marks}
 use Rattle.ff_table.specs.declared.table.Home.{Home}
 
 -- the frames, the page table, the slots of the look-aside buffer, and how many pages may be born
 pub record MemoryView : Type 0 where
   pub frames : List Frame
-  pub table : PageTableView
+  pub table : TableView
   pub slots : List (Option Slot)
   pub capacity : ℕ
 
 -- what the parts of a memory keep
 pub record IsMemorySound (m : MemoryView) : Type 0 where
   pub frames_sound : AreFramesSound m.frames
-  pub table_sound : IsPageTableSound m.table
+  pub table_sound : IsTableSound m.table
   pub pages_apart : ArePagesApart m.slots
 
 -- a memory in which every frame is free, every page is at home on the SSD and none is born

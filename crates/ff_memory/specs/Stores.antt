@@ -16,7 +16,7 @@ use Rattle.ff_table.specs.Table.{born_count_in, is_born_in, with_born}
 use Rattle.ff_memory.specs.Loads.{IsMissed}
 use Rattle.ff_memory.specs.Located.{IsLocated}
 use Rattle.ff_memory.specs.Memory.{IsMemorySound, MemoryView, born_set, entry_at, numbered}
-use Rattle.ff_memory.specs.Places.{SamePlaces, place, storing_frame}
+use Rattle.ff_memory.specs.LineBytes.{SameLineBytes, line_bytes, storing_frame}
 use Rattle.ff_memory.specs.declared.access.Access.{Access}
 use Rattle.ff_memory.specs.declared.access.Access.TheVariants.{Served}
 use Rattle.ff_memory.specs.declared.access.Side.TheVariants.{Device, Host, Neither}
@@ -115,7 +115,7 @@ IsStoreBy false None true page line from piece position m d access m' d' =
 IsStoreBy false None false page line from piece position m d access m' d' =
     IsMissed page m d access m' d'
 
--- a store of a piece to a line, from a place on
+-- a store of a piece to a line, from an offset on
 abbrev pub IsStore : ℕ → ℕ → ℕ → List ℕ → ℕ → MemoryView → DeviceState → Access → MemoryView
     → DeviceState → Type 0
 IsStore page line from piece position m d access m' d' =
@@ -125,11 +125,11 @@ IsStore page line from piece position m d access m' d' =
 -- a piece stands in its line, and every other line is as before
 pub record IsStored (page line from : ℕ) (piece : List ℕ) (m : MemoryView) (d : DeviceState)
     (m' : MemoryView) (d' : DeviceState) : Type 0 where
-  pub here : place m' d' page line ≡ overlaid (place m d page line) from piece
-  pub others : (q j : ℕ) → j < 64 → (q ≡ page → j ≢ line) → place m' d' q j ≡ place m d q j
+  pub here : line_bytes m' d' page line ≡ overlaid (line_bytes m d page line) from piece
+  pub others : (q j : ℕ) → j < 64 → (q ≡ page → j ≢ line) → line_bytes m' d' q j ≡ line_bytes m d q j
 
 -- what a store's answer says of the lines
 abbrev pub StoresBy : Access → ℕ → ℕ → ℕ → List ℕ → MemoryView → DeviceState → MemoryView
     → DeviceState → Type 0
 StoresBy (Served Done side) page line from piece m d m' d' = IsStored page line from piece m d m' d'
-StoresBy access page line from piece m d m' d' = SamePlaces m d m' d'
+StoresBy access page line from piece m d m' d' = SameLineBytes m d m' d'

@@ -5,7 +5,7 @@ ghost use Rattle.ff_lines.specs.LineMask.{has_line};
 ghost use Rattle.ff_memory.specs.Advances.{Advances, AdvancesBy, FinishesOrLifts, IsLandedOnDevice, IsReady, LandsBy, LiftsFrom, finished_by, source_line};
 ghost use Rattle.ff_memory.specs.Located.{IsLocated};
 ghost use Rattle.ff_memory.specs.Memory.{slot_set};
-ghost use Rattle.ff_memory.specs.Places.{SamePlaces};
+ghost use Rattle.ff_memory.specs.LineBytes.{SameLineBytes};
 ghost use Rattle.ff_frames.specs.Frames.{frame_at};
 ghost use Rattle.ff_plb.specs.Plb.{HasEntry, IsInUse, slot_at};
 ghost use Rattle.ff_plb.specs.Slot.{after_lift};
@@ -27,7 +27,7 @@ impl Memory {
         ensures step { Advances slot (slot_at self.old.slots slot)
             self.old (D.state d.old) result self.new (D.state d.new) }
         ensures located { IsLocated self.new (D.state d.new) }
-        ensures place { SamePlaces self.old (D.state d.old) self.new (D.state d.new) }
+        ensures lines { SameLineBytes self.old (D.state d.old) self.new (D.state d.new) }
         ensures own { D.own d.new ≡ D.own d.old }
     {
         self.known();

@@ -7,7 +7,7 @@ ghost use Rattle.ff_frames.specs.Frame.{taken_frame};
 ghost use Rattle.ff_memory.specs.Begins.{CanPromote, CanRetreat, IsComingSlot, IsPromoted, IsRetreated, turned_at};
 ghost use Rattle.ff_memory.specs.Located.{IsLocated};
 ghost use Rattle.ff_memory.specs.Memory.{frame_set, home_at, home_set, slot_set};
-ghost use Rattle.ff_memory.specs.Places.{SamePlaces};
+ghost use Rattle.ff_memory.specs.LineBytes.{SameLineBytes};
 ghost use Rattle.ff_plb.specs.Plb.{HasEntry, IsLeastEmpty, IsNoneEmpty};
 ghost use Rattle.ff_plb.specs.Slot.{after_turn};
 
@@ -47,7 +47,7 @@ impl Memory {
         requires located { IsLocated self.old (D.state d.old) }
         ensures step { IsPromoted page.0 self.old (D.state d.old) self.new (D.state d.new) }
         ensures located { IsLocated self.new (D.state d.new) }
-        ensures place { SamePlaces self.old (D.state d.old) self.new (D.state d.new) }
+        ensures lines { SameLineBytes self.old (D.state d.old) self.new (D.state d.new) }
         ensures own { D.own d.new ≡ D.own d.old }
     {
         self.known();
@@ -84,7 +84,7 @@ impl Memory {
         requires located { IsLocated self.old (D.state d.old) }
         ensures step { IsRetreated page.0 self.old (D.state d.old) self.new (D.state d.new) }
         ensures located { IsLocated self.new (D.state d.new) }
-        ensures place { SamePlaces self.old (D.state d.old) self.new (D.state d.new) }
+        ensures lines { SameLineBytes self.old (D.state d.old) self.new (D.state d.new) }
         ensures own { D.own d.new ≡ D.own d.old }
     {
         self.known();
@@ -123,8 +123,8 @@ impl Memory {
         ensures step { self.new ≡ turned_at slot self.old }
         ensures located { (d : DeviceState) → IsDevice d → IsLocated self.old d
             → IsLocated self.new d }
-        ensures place { (d : DeviceState) → IsDevice d → IsLocated self.old d
-            → SamePlaces self.old d self.new d }
+        ensures lines { (d : DeviceState) → IsDevice d → IsLocated self.old d
+            → SameLineBytes self.old d self.new d }
     {
         self.known();
         let entry = self.plb.entry(slot);

@@ -3,12 +3,12 @@
 #![tactic(auto)]
 
 mod access;
+mod address;
 mod advance;
 mod begin;
 mod load;
 mod mark;
 mod memory;
-mod place;
 mod store;
 #[cfg(test)]
 mod tests;

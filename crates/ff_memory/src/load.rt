@@ -8,11 +8,11 @@ ghost use Rattle.ff_model.specs.Spans.{is_span};
 ghost use Rattle.ff_memory.specs.Loads.{IsLoad, IsLoadBy};
 ghost use Rattle.ff_memory.specs.Located.{IsLocated};
 ghost use Rattle.ff_memory.specs.Memory.{frame_set};
-ghost use Rattle.ff_memory.specs.Places.{SamePlaces};
+ghost use Rattle.ff_memory.specs.LineBytes.{SameLineBytes};
 
 use crate::access::{Access, Side};
+use crate::address::{Address, piece_of};
 use crate::memory::Memory;
-use crate::place::{Address, piece_of};
 use ff_lines::LineDevice;
 use ff_model::Reply;
 
@@ -39,7 +39,7 @@ impl Memory {
         requires located { IsLocated self.old (D.state d.old) }
         ensures load { IsLoad at len self.old (D.state d.old) result self.new (D.state d.new) }
         ensures located { IsLocated self.new (D.state d.new) }
-        ensures place { SamePlaces self.old (D.state d.old) self.new (D.state d.new) }
+        ensures lines { SameLineBytes self.old (D.state d.old) self.new (D.state d.new) }
         ensures own { D.own d.new ≡ D.own d.old }
     {
         let at = Address::of(at);

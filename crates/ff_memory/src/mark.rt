@@ -4,7 +4,7 @@ ghost use Rattle.ff_lines.specs.DeviceState.{DeviceState};
 ghost use Rattle.ff_memory.specs.Located.{IsLocated};
 ghost use Rattle.ff_memory.specs.Marking.{IsMarkBy, IsUnreferred, is_between, is_passed};
 ghost use Rattle.ff_memory.specs.Memory.{marks_set};
-ghost use Rattle.ff_memory.specs.Places.{SamePlaces, is_home};
+ghost use Rattle.ff_memory.specs.LineBytes.{SameLineBytes, is_home};
 
 use crate::access::{Access, Side};
 use crate::memory::Memory;
@@ -29,7 +29,7 @@ impl Memory {
         ensures mark { IsMarkBy (is_home self.old page.0) page.0 lines
             self.old (D.state d.old) result self.new (D.state d.new) }
         ensures located { IsLocated self.new (D.state d.new) }
-        ensures place { SamePlaces self.old (D.state d.old) self.new (D.state d.new) }
+        ensures lines { SameLineBytes self.old (D.state d.old) self.new (D.state d.new) }
         ensures own { D.own d.new ≡ D.own d.old }
     {
         if !self.is_home(page) {
@@ -45,7 +45,7 @@ impl Memory {
         requires { page.0 < length self.old.table.homes }
         ensures step { self.new ≡ marks_set page.0 lines false self.old }
         ensures located { (d : DeviceState) → IsLocated self.old d → IsLocated self.new d }
-        ensures place { (d : DeviceState) → SamePlaces self.old d self.new d }
+        ensures lines { (d : DeviceState) → SameLineBytes self.old d self.new d }
     {
         self.table.mark(page, lines, false);
     }
@@ -57,7 +57,7 @@ impl Memory {
         requires to { to < length self.old.frames }
         ensures step { IsUnreferred (is_passed from to) self.old self.new }
         ensures located { (d : DeviceState) → IsLocated self.old d → IsLocated self.new d }
-        ensures place { (d : DeviceState) → SamePlaces self.old d self.new d }
+        ensures lines { (d : DeviceState) → SameLineBytes self.old d self.new d }
     {
         if from <= to {
             return self.unrefer(from, to);

@@ -3,7 +3,7 @@ ghost use Rattle.std.specs.Prelude.{◌≡◌, ◌<◌, IfSome, length};
 ghost use Rattle.ff_lines.specs.LineMask.{has_line};
 ghost use Rattle.ff_plb.specs.Plb.{IsInUse, slot_at};
 
-use crate::place::{frame_in_flight, frame_of_home};
+use crate::address::{frame_in_flight, frame_of_home};
 use ff_base::{Marks, PageNo};
 use ff_frames::Frames;
 use ff_plb::Plb;
@@ -31,7 +31,7 @@ impl Model for Memory {
 
 impl Memory {
     ghost use Rattle.ff_memory.specs.Memory.{IsMemorySound};
-    ghost use Rattle.ff_memory.specs.Places.{frame_in_flight, serving_frame};
+    ghost use Rattle.ff_memory.specs.LineBytes.{frame_in_flight, serving_frame};
 
     /// A memory of these parts, in which at most `capacity` pages may be born.
     pub fn new(frames: Frames, table: Table, plb: Plb, capacity: u32) -> Memory

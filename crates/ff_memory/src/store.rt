@@ -6,12 +6,12 @@ ghost use Rattle.ff_plb.specs.Plb.{HasEntry, IsFound};
 ghost use Rattle.ff_memory.specs.Advances.{IsReady};
 ghost use Rattle.ff_memory.specs.Located.{IsLocated};
 ghost use Rattle.ff_memory.specs.Memory.{born_set, entry_at, frame_set, home_at};
-ghost use Rattle.ff_memory.specs.Places.{frame_for, line_in_page, page_of, place_in_line, storing_frame};
+ghost use Rattle.ff_memory.specs.LineBytes.{frame_for, line_in_page, page_of, offset_in_line, storing_frame};
 ghost use Rattle.ff_memory.specs.Stores.{DrainsIf, IsFrameStore, IsStore, IsStoreBy, IsStoreGiven, StoresBy, carried_frame, carries, is_store_refused, stored_frame};
 
 use crate::access::{Access, Side};
+use crate::address::{Address, carries, frame_of_home, store_in_flight};
 use crate::memory::Memory;
-use crate::place::{Address, carries, frame_of_home, store_in_flight};
 use ff_base::PageNo;
 use ff_lines::LineDevice;
 use ff_model::{Piece, Reply};
@@ -30,10 +30,10 @@ impl Memory {
     ) -> Access
         requires span { IsTrue (is_span (length self.old.table.homes) at (length bytes.now)) }
         requires located { IsLocated self.old (D.state d.old) }
-        ensures store { IsStore (page_of at) (line_in_page at) (place_in_line at) bytes.now position
+        ensures store { IsStore (page_of at) (line_in_page at) (offset_in_line at) bytes.now position
             self.old (D.state d.old) result self.new (D.state d.new) }
         ensures located { IsLocated self.new (D.state d.new) }
-        ensures place { StoresBy result (page_of at) (line_in_page at) (place_in_line at) bytes.now
+        ensures lines { StoresBy result (page_of at) (line_in_page at) (offset_in_line at) bytes.now
             self.old (D.state d.old) self.new (D.state d.new) }
         ensures own { D.own d.new ≡ D.own d.old }
     {

@@ -31,7 +31,7 @@ pub fn first_illegal(
     ensures first { IfSome result
         (IsFirstIllegal (opening_of base.now geometry.now from_event faults) history.now.entries) }
 {
-    let opening = Start {
+    let opening = JudgedFrom {
         base,
         pages: geometry.pages,
         capacity: geometry.capacity(),
@@ -51,7 +51,7 @@ pub fn first_illegal(
 
 // How a session was opened.
 #[derive(Clone, Copy)]
-struct Start<'a> {
+struct JudgedFrom<'a> {
     base: &'a Image,
     pages: u32,
     capacity: u32,
@@ -59,7 +59,7 @@ struct Start<'a> {
     faults: u64,
 }
 
-fn may_follow(opening: &Start, before: &[Entry], entry: &Entry) -> bool
+fn may_follow(opening: &JudgedFrom, before: &[Entry], entry: &Entry) -> bool
     ensures { IsTrue result ↔ MayFollow (opening_in opening.now) before.now entry.now }
 {
     next_event(opening, before) <= entry.event
@@ -68,7 +68,7 @@ fn may_follow(opening: &Start, before: &[Entry], entry: &Entry) -> bool
         && is_reply(opening, before, entry)
 }
 
-fn is_reply(opening: &Start, before: &[Entry], entry: &Entry) -> bool
+fn is_reply(opening: &JudgedFrom, before: &[Entry], entry: &Entry) -> bool
     ensures { IsTrue result ↔ ((entry.now.reply
         ≡ due_reply (opening_in opening.now) before.now entry.now.event entry.now.op)
         ⊎ IsFault (opening_in opening.now) before.now entry.now) }
@@ -80,7 +80,7 @@ fn is_reply(opening: &Start, before: &[Entry], entry: &Entry) -> bool
     is_fault(opening, before, entry, &due)
 }
 
-fn is_fault(opening: &Start, before: &[Entry], entry: &Entry, due: &Reply) -> bool
+fn is_fault(opening: &JudgedFrom, before: &[Entry], entry: &Entry, due: &Reply) -> bool
     requires { due.now
         ≡ due_reply (opening_in opening.now) before.now entry.now.event entry.now.op }
     ensures { IsTrue result ↔ IsFault (opening_in opening.now) before.now entry.now }
@@ -109,7 +109,7 @@ fn is_served(reply: &Reply) -> bool
     }
 }
 
-fn next_event(opening: &Start, before: &[Entry]) -> u64
+fn next_event(opening: &JudgedFrom, before: &[Entry]) -> u64
     ensures { result ≡ next_event (opening_in opening.now) before.now }
 {
     let mut event = opening.event;
@@ -129,7 +129,7 @@ fn event_after(event: u64) -> u64
     }
 }
 
-fn faults_after(opening: &Start, before: &[Entry]) -> u64
+fn faults_after(opening: &JudgedFrom, before: &[Entry]) -> u64
     ensures { result ≡ faults_after (opening_in opening.now) before.now }
 {
     let mut faults = opening.faults;
@@ -139,7 +139,7 @@ fn faults_after(opening: &Start, before: &[Entry]) -> u64
     faults
 }
 
-fn due_reply(opening: &Start, before: &[Entry], event: u64, op: &Op) -> Reply
+fn due_reply(opening: &JudgedFrom, before: &[Entry], event: u64, op: &Op) -> Reply
     ensures { result ≡ due_reply (opening_in opening.now) before.now event op.now }
 {
     if !op.is_in_range(opening.pages) {
@@ -154,7 +154,7 @@ fn due_reply(opening: &Start, before: &[Entry], event: u64, op: &Op) -> Reply
     served_reply(opening, before, op)
 }
 
-fn is_refused(opening: &Start, before: &[Entry], op: &Op) -> bool
+fn is_refused(opening: &JudgedFrom, before: &[Entry], op: &Op) -> bool
     ensures { result ≡ is_refused (opening_in opening.now) before.now op.now }
 {
     match op {
@@ -202,7 +202,7 @@ fn stores_to(op: &Op, page: u32) -> bool
     }
 }
 
-fn born_count(opening: &Start, before: &[Entry]) -> u32
+fn born_count(opening: &JudgedFrom, before: &[Entry]) -> u32
     ensures { result ≡ born_count opening.now.base.now before.now opening.now.pages }
 {
     let mut count = 0;
@@ -214,7 +214,7 @@ fn born_count(opening: &Start, before: &[Entry]) -> u32
     count
 }
 
-fn served_reply(opening: &Start, before: &[Entry], op: &Op) -> Reply
+fn served_reply(opening: &JudgedFrom, before: &[Entry], op: &Op) -> Reply
     requires { IsTrue (is_in_range opening.now.pages op.now) }
     ensures { result ≡ served_reply (flat_byte_of opening.now.base.now before.now) op.now }
 {
@@ -224,7 +224,7 @@ fn served_reply(opening: &Start, before: &[Entry], op: &Op) -> Reply
     }
 }
 
-fn span(opening: &Start, before: &[Entry], at: u32, len: u32) -> Piece
+fn span(opening: &JudgedFrom, before: &[Entry], at: u32, len: u32) -> Piece
     requires { IsTrue (is_span opening.now.pages at len) }
     ensures { result ≡ span_bytes (flat_byte_of opening.now.base.now before.now) at len }
 {

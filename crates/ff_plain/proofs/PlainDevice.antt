@@ -11,7 +11,7 @@ use Rattle.ff_lines.specs.Posts.{laid_on, waits_in, IsPost}
 use Rattle.ff_lines.specs.declared.post.Post.{Post}
 use Rattle.ff_lines.proofs.PageCounts.{count_below-most}
 use Rattle.ff_lines.proofs.PageOverlaid.{length-blank_page, length-line_or_blank, length-page_overlaid, line_or_blank-laid, laid_on-other}
-use Rattle.ff_plain.specs.PlainView.{PlainView, after_post, drained_view, fresh_page, fresh_view, page_at, pages_after, pinned_page, state_of, written_page, IsPlain}
+use Rattle.ff_plain.specs.Plain.{PlainView, after_post, drained_view, fresh_page, fresh_view, page_at, pages_after, pinned_page, state_of, written_page, IsPlain}
 use Rattle.ff_plain.specs.declared.plain.PlainPage.{PlainPage}
 use Rattle.ff_plain.proofs.PlainPages.{each_after, page_at-fresh, same_after}
 

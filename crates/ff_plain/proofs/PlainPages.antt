@@ -4,7 +4,7 @@ use Rattle.std.proofs.Math.ListN.{replicate}
 use Rattle.std.specs.Prelude.{if◌then◌else◌}
 use Rattle.std.proofs.lemmas.Bool.{cases_eq, cases_lt, eq-eqb, ne_eqb}
 use Rattle.std.proofs.lemmas.List.{get_or-replicate, get_or_past, length-replicate}
-use Rattle.ff_plain.specs.PlainView.{fresh_page, page_at}
+use Rattle.ff_plain.specs.Plain.{fresh_page, page_at}
 use Rattle.ff_plain.specs.declared.plain.PlainPage.{PlainPage}
 
 -- a page after one was changed

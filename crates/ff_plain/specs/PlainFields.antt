@@ -1,5 +1,5 @@
 -- How a plain device's fields show.
-use Rattle.ff_plain.specs.PlainView.{PlainView, IsPlain}
+use Rattle.ff_plain.specs.Plain.{PlainView, IsPlain}
 use Rattle.ff_plain.specs.declared.plain.Plain.TheInside.{Inside}
 
 abbrev pub view_of : Inside → PlainView

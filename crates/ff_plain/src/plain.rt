@@ -1,7 +1,7 @@
 // Pages in memory, and the one post that waits for them.
 ghost use Rattle.std.specs.Prelude.{◌≡◌, ◌<◌, ◌≤◌, ◌+◌, IfOk, length, slice_set};
 ghost use Rattle.ff_lines.specs.BlankLine.{line_or_blank};
-ghost use Rattle.ff_plain.specs.PlainView.{after_post, drained_view, fresh_page, fresh_view, page_at, pinned_page, state_of, written_page, IsPlain};
+ghost use Rattle.ff_plain.specs.Plain.{after_post, drained_view, fresh_page, fresh_view, page_at, pinned_page, state_of, written_page, IsPlain};
 
 use ff_base::{LINE_BYTES, NoMemory, PageBuf, PageNo};
 use ff_lines::{LineDevice, Post, Work, overlay_page};
@@ -27,7 +27,7 @@ pub struct Plain {
 }
 
 impl Model for Plain {
-    ghost use Rattle.ff_plain.specs.PlainView.{PlainView};
+    ghost use Rattle.ff_plain.specs.Plain.{PlainView};
 
     ghost Value = { PlainView };
 

@@ -15,11 +15,11 @@ use Rattle.ff_flash.specs.declared.flash.Probe.{Probe}
 use Rattle.ff_flash.specs.declared.flash.Probe.TheVariants.{Erased, Sealed}
 use Rattle.ff_flash.specs.declared.spare.Spare.{Spare}
 use Rattle.ff_space.specs.Blocks.{erased_block, mapped_more, state_by_next, waiting}
-use Rattle.ff_space.specs.BlockTable.{TableView, block_at, changed_at}
+use Rattle.ff_space.specs.BlockTable.{BlockTableView, block_at, changed_at}
 use Rattle.ff_space.specs.Choices.{IsLeast}
 use Rattle.ff_space.specs.declared.block.BlockEntry.{BlockEntry}
 use Rattle.ff_space.specs.declared.block.BlockState.TheVariants.{Erased as ErasedBlock, Open, Full, Waiting}
-use Rattle.ff_map.specs.PageMap.{IsFreeBut, MapView, empty_map, mapping_of, with_mapping}
+use Rattle.ff_map.specs.PageMap.{IsFreeBut, PageMapView, empty_map, mapping_of, with_mapping}
 use Rattle.ff_map.specs.declared.places.Mapping.{Mapping}
 use Rattle.ff_scan.proofs.Covering.{place_below, place_from}
 use Rattle.ff_scan.proofs.Newest.{newest_most, newest_there, same_page, same_spare, sealed_within}
@@ -42,7 +42,7 @@ at_of None at is = absurd (none-some at is)
 at_of (Some m) at is = record { mapping = m; is = refl; there = same_Some m.at at is }
 
 -- no page is at a place that wasn't looked at
-pub free_here : (g : Geometry) (probes : List Probe) (spare : ℕ) (at : Ppn) (page : PageNo) (table : TableView) (places : MapView)
+pub free_here : (g : Geometry) (probes : List Probe) (spare : ℕ) (at : Ppn) (page : PageNo) (table : BlockTableView) (places : PageMapView)
     → AreTopsMapped g probes spare at.0 table places → IsFreeBut places at page
 free_here g probes spare at page table places are other owner =
     let one = at_of (mapping_of places other) at owner in
@@ -60,7 +60,7 @@ by_next_plain per next waits = elim (cases_Bool (eqb next 0)) [
 ]
 
 -- no block but the spare one waits
-pub not_waiting : (g : Geometry) (probes : List Probe) (spare count block : ℕ) (table : TableView) (places : MapView)
+pub not_waiting : (g : Geometry) (probes : List Probe) (spare count block : ℕ) (table : BlockTableView) (places : PageMapView)
     → AreTopsMapped g probes spare count table places → block < g.blocks → block ≢ spare
     → (block_at table block).state ≢ Waiting
 not_waiting g probes spare count block table places are below other waits =
@@ -77,7 +77,7 @@ block_here g probes place limits are below =
     div_below place g.per_block g.blocks (omega arith) (omega arith)
 
 -- a block has more pages before its write place than are mapped, where the next place is sealed
-pub has_room : (g : Geometry) (probes : List Probe) (spare place : ℕ) (found : Spare) (table : TableView) (places : MapView)
+pub has_room : (g : Geometry) (probes : List Probe) (spare place : ℕ) (found : Spare) (table : BlockTableView) (places : PageMapView)
     → IsWithinLimits g → AreProbes g probes → place < length probes → AreTopsMapped g probes spare place table places
     → probe_at probes place ≡ Sealed found
     → (block_at table (place / g.per_block)).mapped < (block_at table (place / g.per_block)).next
@@ -98,7 +98,7 @@ has_room g probes spare place found table places limits probed below are is =
     ]
 
 -- a place that holds nothing that is to be mapped
-pub mapped_left : (g : Geometry) (probes : List Probe) (spare place : ℕ) (table : TableView) (places : MapView)
+pub mapped_left : (g : Geometry) (probes : List Probe) (spare place : ℕ) (table : BlockTableView) (places : PageMapView)
     → AreTopsMapped g probes spare place table places
     → ((found : Spare) → IsTop g.per_block probes spare place found → mapping_of places found.page ≢ None)
     → AreTopsMapped g probes spare (place + 1) table places
@@ -120,7 +120,7 @@ mapped_left g probes spare place table places are known = record {
   ];
 }
 
-newest_of : (g : Geometry) (probes : List Probe) (spare : ℕ) (at : Ppn) (found : Spare) (table : TableView) (places : MapView)
+newest_of : (g : Geometry) (probes : List Probe) (spare : ℕ) (at : Ppn) (found : Spare) (table : BlockTableView) (places : PageMapView)
     → AreTopsMapped g probes spare at.0 table places → IsTop g.per_block probes spare at.0 found
     → mapping_of places found.page ≡ None
     → IsNewestMapping g.per_block probes spare found.page (record { at = at; version = found.version })
@@ -139,7 +139,7 @@ abbrev counts : ℕ → ℕ → Option Mapping → ℕ
 counts per block m = cond (is_in per block m) 1 0
 
 -- one more page is counted in its block
-counted_more : (per block : ℕ) (places : MapView) (page : PageNo) (m : Mapping) → page.0 < length places.pages
+counted_more : (per block : ℕ) (places : PageMapView) (page : PageNo) (m : Mapping) → page.0 < length places.pages
     → mapping_of places page ≡ None
     → mapped_in per (with_mapping places page m) block ≡ mapped_in per places block + cond (eqb (m.at.0 / per) block) 1 0
 counted_more per block places page m within none =
@@ -147,22 +147,22 @@ counted_more per block places page m within none =
     let old : counts per block (get_or places.pages page.0 None) ≡ 0 = ap (counts per block) none in
     omega arith
 
-with_same : (places : MapView) (page other : PageNo) (m : Mapping) → page.0 < length places.pages → other.0 ≡ page.0
+with_same : (places : PageMapView) (page other : PageNo) (m : Mapping) → page.0 < length places.pages → other.0 ≡ page.0
     → mapping_of (with_mapping places page m) other ≡ Some m
 with_same places page other m within same =
     ap (λ (n : ℕ). get_or (set places.pages page.0 (Some m)) n None) same
     ∙ get_or-set_same places.pages page.0 (Some m) None within
 
-with_other : (places : MapView) (page other : PageNo) (m : Mapping) → other.0 ≢ page.0
+with_other : (places : PageMapView) (page other : PageNo) (m : Mapping) → other.0 ≢ page.0
     → mapping_of (with_mapping places page m) other ≡ mapping_of places other
 with_other places page other m apart = get_or-set_other places.pages page.0 other.0 (Some m) None apart
 
-more_here : (table : TableView) (block : ℕ) → block < length table.blocks
+more_here : (table : BlockTableView) (block : ℕ) → block < length table.blocks
     → block_at (changed_at table block mapped_more) block ≡ mapped_more (block_at table block)
 more_here table block within =
     get_or-set_same table.blocks block (mapped_more (block_at table block)) (waiting erased_block) within
 
-more_other : (table : TableView) (block other : ℕ) → other ≢ block
+more_other : (table : BlockTableView) (block other : ℕ) → other ≢ block
     → block_at (changed_at table block mapped_more) other ≡ block_at table other
 more_other table block other apart =
     get_or-set_other table.blocks block other (mapped_more (block_at table block)) (waiting erased_block) apart
@@ -172,7 +172,7 @@ found_more : (per : ℕ) (probes : List Probe) (spare block : ℕ) (entry : Bloc
 found_more per probes spare block entry found = record { next = found.next; state = found.state }
 
 -- a block of the table where one more page is mapped
-found_after : (g : Geometry) (probes : List Probe) (spare b block : ℕ) (table : TableView) → block < length table.blocks
+found_after : (g : Geometry) (probes : List Probe) (spare b block : ℕ) (table : BlockTableView) → block < length table.blocks
     → IsFoundBlock g.per_block probes spare b (block_at table b)
     → IsFoundBlock g.per_block probes spare b (block_at (changed_at table block mapped_more) b)
 found_after g probes spare b block table within found = elim (cases_eq b block) [
@@ -186,7 +186,7 @@ found_after g probes spare b block table within found = elim (cases_eq b block) 
       subst (λ (e : BlockEntry). IsFoundBlock g.per_block probes spare b e) (sym (more_other table block b other)) found
 ]
 
-count_after : (b block : ℕ) (table : TableView) → block < length table.blocks
+count_after : (b block : ℕ) (table : BlockTableView) → block < length table.blocks
     → (block_at (changed_at table block mapped_more) b).mapped ≡ (block_at table b).mapped + cond (eqb block b) 1 0
 count_after b block table within = elim (cases_eq b block) [
   | inl same ↦
@@ -216,7 +216,7 @@ room_after before after b block place per sum room from = elim (cases_eq block b
 ]
 
 -- a place that is mapped
-pub mapped_place : (g : Geometry) (probes : List Probe) (spare : ℕ) (at : Ppn) (found : Spare) (table : TableView) (places : MapView)
+pub mapped_place : (g : Geometry) (probes : List Probe) (spare : ℕ) (at : Ppn) (found : Spare) (table : BlockTableView) (places : PageMapView)
     → IsWithinLimits g → AreProbes g probes → at.0 < length probes → AreTopsMapped g probes spare at.0 table places
     → IsTop g.per_block probes spare at.0 found → mapping_of places found.page ≡ None
     → AreTopsMapped g probes spare (at.0 + 1) (changed_at table (at.0 / g.per_block) mapped_more)
@@ -274,15 +274,15 @@ mapped_place g probes spare at found table places limits probed below are top no
       ];
     }
 
-pub mapped_next : (g : Geometry) (probes : List Probe) (spare : ℕ) (at : Ppn) (found : Spare) (table new_table : TableView) (places new_places : MapView)
+pub mapped_next : (g : Geometry) (probes : List Probe) (spare : ℕ) (at : Ppn) (found : Spare) (table new_table : BlockTableView) (places new_places : PageMapView)
     → IsWithinLimits g → AreProbes g probes → at.0 < length probes → AreTopsMapped g probes spare at.0 table places
     → IsTop g.per_block probes spare at.0 found → mapping_of places found.page ≡ None
     → new_table ≡ changed_at table (at.0 / g.per_block) mapped_more
     → new_places ≡ with_mapping places found.page (record { at = at; version = found.version })
     → AreTopsMapped g probes spare (at.0 + 1) new_table new_places
 mapped_next g probes spare at found table new_table places new_places limits probed below are top none table_is places_is =
-    subst (λ (t : TableView). AreTopsMapped g probes spare (at.0 + 1) t new_places) (sym table_is)
-    (subst (λ (p : MapView). AreTopsMapped g probes spare (at.0 + 1) (changed_at table (at.0 / g.per_block) mapped_more) p) (sym places_is)
+    subst (λ (t : BlockTableView). AreTopsMapped g probes spare (at.0 + 1) t new_places) (sym table_is)
+    (subst (λ (p : PageMapView). AreTopsMapped g probes spare (at.0 + 1) (changed_at table (at.0 / g.per_block) mapped_more) p) (sym places_is)
     (mapped_place g probes spare at found table places limits probed below are top none))
 
 no_mapping : (g : Geometry) (page : PageNo) → mapping_of (empty_map g) page ≡ None
@@ -300,10 +300,10 @@ none_counted g block =
     omega arith
 
 -- no place was looked at
-pub mapped_none : (g : Geometry) (probes : List Probe) (spare : ℕ) (table : TableView) (places : MapView)
+pub mapped_none : (g : Geometry) (probes : List Probe) (spare : ℕ) (table : BlockTableView) (places : PageMapView)
     → AreBlocksPlaced g probes spare g.blocks table → places ≡ empty_map g → AreTopsMapped g probes spare 0 table places
 mapped_none g probes spare table places are is =
-    subst (λ (p : MapView). AreTopsMapped g probes spare 0 table p) (sym is) (record {
+    subst (λ (p : PageMapView). AreTopsMapped g probes spare 0 table p) (sym is) (record {
       per_block = are.per_block;
       block_count = are.block_count;
       blocks = are.placed;
@@ -317,7 +317,7 @@ mapped_none g probes spare table places are is =
     })
 
 -- a page that isn't mapped is nowhere outside the spare block
-none_outside : (g : Geometry) (probes : List Probe) (spare : ℕ) (table : TableView) (places : MapView) (page : PageNo)
+none_outside : (g : Geometry) (probes : List Probe) (spare : ℕ) (table : BlockTableView) (places : PageMapView) (page : PageNo)
     → AreProbes g probes → AreTopsMapped g probes spare (length probes) table places → mapping_of places page ≡ None
     → (at : ℕ) (found : Spare) → IsOutside g.per_block probes spare at found → found.page ≢ page
 none_outside g probes spare table places page probed are none at found out same =
@@ -333,7 +333,7 @@ none_outside g probes spare table places page probed are none at found out same 
     } in
     are.unmapped one.at one.spare one.below top (ap (λ (q : PageNo). mapping_of places q) its_page ∙ none)
 
-page_found : (g : Geometry) (probes : List Probe) (spare : ℕ) (table : TableView) (places : MapView) (page : PageNo)
+page_found : (g : Geometry) (probes : List Probe) (spare : ℕ) (table : BlockTableView) (places : PageMapView) (page : PageNo)
     → AreProbes g probes → AreTopsMapped g probes spare (length probes) table places
     → (o : Option Mapping) → mapping_of places page ≡ o → IsFoundPage g.per_block probes spare page o
 page_found g probes spare table places page probed are None is =
@@ -341,7 +341,7 @@ page_found g probes spare table places page probed are None is =
 page_found g probes spare table places page probed are (Some m) is = are.mapped page m is
 
 -- every place was looked at
-pub scan_of : (g : Geometry) (probes : List Probe) (spare next : ℕ) (table : TableView) (places : MapView)
+pub scan_of : (g : Geometry) (probes : List Probe) (spare next : ℕ) (table : BlockTableView) (places : PageMapView)
     → AreProbes g probes → IsLeast (IsCoveredBlock g probes) spare
     → AreTopsMapped g probes spare (length probes) table places → IsNextVersion probes (length probes) next
     → IsScan g probes spare table (record places { next_version = next })

@@ -6,7 +6,7 @@ use Rattle.ff_base.specs.declared.geometry.Geometry.{Geometry}
 use Rattle.ff_flash.specs.declared.flash.Probe.{Probe}
 use Rattle.ff_flash.specs.declared.flash.Probe.TheVariants.{Erased}
 use Rattle.ff_space.specs.Blocks.{block_placed, erased_block, waiting}
-use Rattle.ff_space.specs.BlockTable.{TableView, block_at, changed_at, new_table}
+use Rattle.ff_space.specs.BlockTable.{BlockTableView, block_at, changed_at, new_table}
 use Rattle.ff_space.specs.declared.block.BlockEntry.{BlockEntry}
 use Rattle.ff_scan.specs.Found.{IsFoundBlock, IsUsed}
 use Rattle.ff_scan.specs.Placed.{AreBlocksPlaced, found_entry}
@@ -51,17 +51,17 @@ found_next per probes spare block next is_spare entry test used is =
     subst (λ (e : BlockEntry). IsFoundBlock per probes spare block e) (sym is)
     (record { next = used; state = rw test refl })
 
-entry_here : (table : TableView) (block : ℕ) (entry : BlockEntry) → block < length table.blocks
+entry_here : (table : BlockTableView) (block : ℕ) (entry : BlockEntry) → block < length table.blocks
     → block_at (changed_at table block (λ _. entry)) block ≡ entry
 entry_here table block entry within = get_or-set_same table.blocks block entry (waiting erased_block) within
 
-entry_other : (table : TableView) (block other : ℕ) (entry : BlockEntry) → other ≢ block
+entry_other : (table : BlockTableView) (block other : ℕ) (entry : BlockEntry) → other ≢ block
     → block_at (changed_at table block (λ _. entry)) other ≡ block_at table other
 entry_other table block other entry apart =
     get_or-set_other table.blocks block other entry (waiting erased_block) apart
 
 -- the write place of one more block
-placed_next : (g : Geometry) (probes : List Probe) (spare block next : ℕ) (is_spare : Bool) (table : TableView)
+placed_next : (g : Geometry) (probes : List Probe) (spare block next : ℕ) (is_spare : Bool) (table : BlockTableView)
     → eqb spare block ≡ is_spare → block < g.blocks → AreBlocksPlaced g probes spare block table
     → IsUsed g.per_block probes block g.per_block next
     → AreBlocksPlaced g probes spare (block + 1) (changed_at table block (λ _. found_entry table.per_block is_spare next))
@@ -92,27 +92,27 @@ placed_next g probes spare block next is_spare table test below are used =
           entry_other table block b entry other ∙ are.rest b (omega arith) lower);
     }
 
-pub placed_spare : (g : Geometry) (probes : List Probe) (spare block next : ℕ) (table new : TableView)
+pub placed_spare : (g : Geometry) (probes : List Probe) (spare block next : ℕ) (table new : BlockTableView)
     → block < g.blocks → AreBlocksPlaced g probes spare block table → IsUsed g.per_block probes block g.per_block next
     → block ≡ spare → new ≡ changed_at table block (λ _. found_entry table.per_block true next)
     → AreBlocksPlaced g probes spare (block + 1) new
 placed_spare g probes spare block next table new below are used same is =
-    subst (λ (t : TableView). AreBlocksPlaced g probes spare (block + 1) t) (sym is)
+    subst (λ (t : BlockTableView). AreBlocksPlaced g probes spare (block + 1) t) (sym is)
     (placed_next g probes spare block next true table (eq-eqb spare block (sym same)) below are used)
 
-pub placed_other : (g : Geometry) (probes : List Probe) (spare block next : ℕ) (table new : TableView)
+pub placed_other : (g : Geometry) (probes : List Probe) (spare block next : ℕ) (table new : BlockTableView)
     → block < g.blocks → AreBlocksPlaced g probes spare block table → IsUsed g.per_block probes block g.per_block next
     → block ≢ spare → new ≡ changed_at table block (λ _. block_placed table.per_block next)
     → AreBlocksPlaced g probes spare (block + 1) new
 placed_other g probes spare block next table new below are used other is =
-    subst (λ (t : TableView). AreBlocksPlaced g probes spare (block + 1) t) (sym is)
+    subst (λ (t : BlockTableView). AreBlocksPlaced g probes spare (block + 1) t) (sym is)
     (placed_next g probes spare block next false table (ne_eqb spare block (λ same. other (sym same))) below are used)
 
 -- a new table
-pub placed_none : (g : Geometry) (probes : List Probe) (spare : ℕ) (table : TableView) → table ≡ new_table g
+pub placed_none : (g : Geometry) (probes : List Probe) (spare : ℕ) (table : BlockTableView) → table ≡ new_table g
     → AreBlocksPlaced g probes spare 0 table
 placed_none g probes spare table is =
-    subst (λ (t : TableView). AreBlocksPlaced g probes spare 0 t) (sym is) (record {
+    subst (λ (t : BlockTableView). AreBlocksPlaced g probes spare 0 t) (sym is) (record {
       per_block = refl;
       block_count = length-replicate g.blocks erased_block;
       placed = λ b below. absurd (omega arith);
@@ -121,12 +121,12 @@ placed_none g probes spare table is =
     })
 
 -- a block is changed twice
-pub changed_twice : (table : TableView) (block : ℕ) (one : BlockEntry) (change : BlockEntry → BlockEntry)
+pub changed_twice : (table : BlockTableView) (block : ℕ) (one : BlockEntry) (change : BlockEntry → BlockEntry)
     → block < length table.blocks
     → changed_at (changed_at table block (λ _. one)) block change ≡ changed_at table block (λ _. change one)
 changed_twice table block one change within =
     ap (λ (e : BlockEntry). changed_at (changed_at table block (λ _. one)) block (λ _. change e)) (entry_here table block one within)
-    ∙ ap (λ (xs : List BlockEntry). let t : TableView = record { per_block = table.per_block; blocks = xs } in t)
+    ∙ ap (λ (xs : List BlockEntry). let t : BlockTableView = record { per_block = table.per_block; blocks = xs } in t)
     (set-set table.blocks block one (change one))
 
 -- a spare block with programmed pages waits

@@ -5,14 +5,14 @@ use Rattle.ff_base.specs.declared.numbers.PageNo.{PageNo}
 use Rattle.ff_flash.specs.declared.flash.Probe.{Probe}
 use Rattle.ff_flash.specs.declared.flash.Probe.TheVariants.{Erased, Sealed}
 use Rattle.ff_flash.specs.declared.spare.Spare.{Spare}
-use Rattle.ff_space.specs.BlockTable.{TableView, block_at}
+use Rattle.ff_space.specs.BlockTable.{BlockTableView, block_at}
 use Rattle.ff_space.specs.Blocks.{state_by_next}
 use Rattle.ff_space.specs.Choices.{IsLeast}
 use Rattle.ff_space.specs.declared.block.BlockEntry.{BlockEntry}
 use Rattle.ff_space.specs.declared.block.BlockState.{BlockState}
 use Rattle.ff_space.specs.declared.block.BlockState.TheVariants.{Erased as ErasedBlock, Waiting}
 use Rattle.ff_map.specs.MappedPages.{mapped_in}
-use Rattle.ff_map.specs.PageMap.{MapView, mapping_of}
+use Rattle.ff_map.specs.PageMap.{PageMapView, mapping_of}
 use Rattle.ff_map.specs.declared.places.Mapping.{Mapping}
 use Rattle.ff_scan.specs.Covered.{IsCoveredBlock}
 use Rattle.ff_scan.specs.Probes.{probe_at}
@@ -71,8 +71,8 @@ pub record IsNextVersion (probes : List Probe) (count next : ℕ) : Type 0 where
   pub drawn : 1 < next → IsOneAbove probes next
 
 -- the spare block is the least covered one, and table and map are those of the probes
-pub record IsScan (g : Geometry) (probes : List Probe) (spare : ℕ) (table : TableView)
-    (places : MapView) : Type 0 where
+pub record IsScan (g : Geometry) (probes : List Probe) (spare : ℕ) (table : BlockTableView)
+    (places : PageMapView) : Type 0 where
   pub spare_is : IsLeast (IsCoveredBlock g probes) spare
   pub per_block : table.per_block ≡ g.per_block
   pub block_count : length table.blocks ≡ g.blocks

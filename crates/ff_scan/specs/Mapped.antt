@@ -4,8 +4,8 @@ use Rattle.ff_base.specs.declared.geometry.Geometry.{Geometry}
 use Rattle.ff_base.specs.declared.numbers.PageNo.{PageNo}
 use Rattle.ff_flash.specs.declared.flash.Probe.{Probe}
 use Rattle.ff_flash.specs.declared.spare.Spare.{Spare}
-use Rattle.ff_space.specs.BlockTable.{TableView, block_at}
-use Rattle.ff_map.specs.PageMap.{MapView, mapping_of}
+use Rattle.ff_space.specs.BlockTable.{BlockTableView, block_at}
+use Rattle.ff_map.specs.PageMap.{PageMapView, mapping_of}
 use Rattle.ff_map.specs.declared.places.Mapping.{Mapping}
 use Rattle.ff_scan.specs.Found.{IsFoundBlock, IsNewestMapping, IsOutside}
 use Rattle.ff_map.specs.MappedPages.{mapped_in}
@@ -17,8 +17,8 @@ pub record IsTop (per_block : ℕ) (probes : List Probe) (spare at : ℕ) (found
   pub newest : found.version ≡ newest_outside per_block probes spare found.page.0 (length probes)
 
 -- of so many places, the newest ones are mapped and counted
-pub record AreTopsMapped (g : Geometry) (probes : List Probe) (spare count : ℕ) (table : TableView)
-    (places : MapView) : Type 0 where
+pub record AreTopsMapped (g : Geometry) (probes : List Probe) (spare count : ℕ) (table : BlockTableView)
+    (places : PageMapView) : Type 0 where
   pub per_block : table.per_block ≡ g.per_block
   pub block_count : length table.blocks ≡ g.blocks
   pub blocks : (block : ℕ) → block < g.blocks

@@ -2,7 +2,7 @@
 use Rattle.std.specs.Prelude.{ℕ, ◌<◌, ◌≤◌, ◌≡◌, Bool, List, length}
 use Rattle.ff_base.specs.declared.geometry.Geometry.{Geometry}
 use Rattle.ff_flash.specs.declared.flash.Probe.{Probe}
-use Rattle.ff_space.specs.BlockTable.{TableView, block_at}
+use Rattle.ff_space.specs.BlockTable.{BlockTableView, block_at}
 use Rattle.ff_space.specs.Blocks.{erased_block}
 use Rattle.ff_space.specs.declared.block.BlockEntry.{BlockEntry}
 use Rattle.ff_scan.specs.Found.{IsFoundBlock, found_state}
@@ -14,7 +14,7 @@ found_entry per_block is_spare next =
 
 -- the write places of so many blocks are recorded, and no page is counted
 pub record AreBlocksPlaced (g : Geometry) (probes : List Probe) (spare count : ℕ)
-    (table : TableView) : Type 0 where
+    (table : BlockTableView) : Type 0 where
   pub per_block : table.per_block ≡ g.per_block
   pub block_count : length table.blocks ≡ g.blocks
   pub placed : (block : ℕ) → block < count

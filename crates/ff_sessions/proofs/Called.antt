@@ -89,7 +89,7 @@ pub went_call : {T E : Type 0} (old : CoreView T E) (numbers : List ℕ) (caller
     (new : CoreView T E) → IsCoreSound old → IsOpen old numbers → caller.0 < 64 → number ≡ get_or numbers caller.0 0
     → 0 < spare_calls old → IsDriven old caller number op (Served reply) new
     → HasDone old new (set numbers caller.0 (get_or numbers caller.0 0 + 1)) (call caller op ∷ [])
-went_call old numbers caller number op reply new sound opened place is spare drives =
+went_call old numbers caller number op reply new sound opened cursor is spare drives =
     let has = entry_of old caller number op reply new drives.answer in
     let entries : new.history.entries ≡ old.history.entries ++ has.entry ∷ [] = ap (λ (h : Entries). h.entries) has.history in
     let by = ap (λ (c : Caller). c.0) has.by in

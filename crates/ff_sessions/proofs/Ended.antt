@@ -22,7 +22,7 @@ use Rattle.ff_sessions.specs.Items.{Item}
 use Rattle.ff_sessions.specs.Making.{IsPoweredAt, StopsAt, most_operations}
 use Rattle.ff_sessions.specs.Sessions.{MayLeave, arrive_by, cut_by, ending_items}
 use Rattle.ff_sessions.specs.Stops.{ending_of, items_behind, stop_items}
-use Rattle.ff_sessions.specs.declared.stop.Place.{Place}
+use Rattle.ff_sessions.specs.declared.stop.Cursor.{Cursor}
 use Rattle.ff_sessions.specs.declared.stop.Stop.{Stop}
 use Rattle.ff_sessions.specs.declared.stop.Stop.TheVariants as stops
 
@@ -68,7 +68,7 @@ uncut flash on =
 
 -- the item of an ending is that of its stop
 item_of : (stop : Stop) (flash : FlashState) → stop_items stop ≡ ending_items (ending_of stop flash)
-item_of (stops.Cut place) flash = refl
+item_of (stops.Cut cursor) flash = refl
 item_of (stops.Power row arrive) flash = refl
 item_of stops.End flash = refl
 
@@ -82,7 +82,7 @@ record EndsSo (geometry : Geometry) (from flash : FlashState) (stop : Stop) (lef
 ends_so : {T E : Type 0} (geometry : Geometry) (old new : CoreView T E) (rows : List Row) (stop : Stop)
     → IsSimFlashSound (flash_under new.hierarchy) → IsPoweredAt old stop (items_behind rows stop) new
     → EndsSo geometry (flash_under old.hierarchy) (flash_under new.hierarchy) stop (items_behind rows stop)
-ends_so geometry old new rows (stops.Cut place) known powered =
+ends_so geometry old new rows (stops.Cut cursor) known powered =
     let flash = flash_under new.hierarchy in
     let same = sym (off_already flash (cut_is_off flash known.sound powered.1.cut)) in
     let some = cut_arrives flash known powered.1.cut in
@@ -121,7 +121,7 @@ pub record IsLeft {T E : Type 0} (core : CoreView T E) (arrive : ℕ) (lost : Lo
   pub owed : IsLossOf core.geometry core.opening.base arrive lost.account lost.nv lost.flash
 
 -- a session that began, and made its rows up to a stop at which it lost its power, has run
-pub ran_so : {T E : Type 0} (core new : CoreView T E) (rows : List Row) (at : Place) (stop : Stop) (arrive : ℕ)
+pub ran_so : {T E : Type 0} (core new : CoreView T E) (rows : List Row) (at : Cursor) (stop : Stop) (arrive : ℕ)
     (lost : Lost FlashState T E) → IsBegun (setup_in core) (start_of core) core → StopsAt core rows at stop new
     → IsSimFlashSound (flash_under new.hierarchy) → arrive ≡ arrive_by new.geometry (ending_of stop (flash_under new.hierarchy))
     → IsLeft new arrive lost → IsRun (setup_in core) (start_of core) rows at stop lost

@@ -21,7 +21,7 @@ next_none numbers is = record {
 -- one more call of a caller
 pub next_more : (entries : List Entry) (entry : Entry) (numbers : List ℕ) → AreNext numbers entries → entry.caller.0 < 64
     → AreNext (set numbers entry.caller.0 (get_or numbers entry.caller.0 0 + 1)) (entries ++ entry ∷ [])
-next_more entries entry numbers had place =
+next_more entries entry numbers had cursor =
     let size = had.size in
     let by = entry.caller.0 in
     let number = get_or numbers by 0 in
@@ -47,7 +47,7 @@ next_more entries entry numbers had place =
 pub numbered_more : (entries : List Entry) (entry : Entry) (numbers : List ℕ) → ((caller : ℕ) → AreNumbered caller entries)
     → AreNext numbers entries → entry.caller.0 < 64 → entry.number ≡ get_or numbers entry.caller.0 0
     → (caller : ℕ) → AreNumbered caller (entries ++ entry ∷ [])
-numbered_more entries entry numbers had next place number caller =
+numbered_more entries entry numbers had next cursor number caller =
     AreNumbered-append caller entries entry (had caller)
     (λ same. let is : entry.caller.0 ≡ caller = eqb-true entry.caller.0 caller same in
     number ∙ ap (λ (n : ℕ). get_or numbers n 0) is ∙ next.each caller (omega arith))

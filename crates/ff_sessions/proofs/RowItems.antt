@@ -1,4 +1,4 @@
--- The items of rows from a place on.
+-- The items of rows from a cursor on.
 use Rattle.std.proofs.Common.{◌≡◌, ◌+◌, ◌-◌, ◌<◌, ◌≤◌, ℕ, List, [], ◌∷◌, ◌++◌, length, get_or, drop, refl, sym, ap, ◌∙◌, arith, append_assoc}
 use Rattle.std.specs.Prelude.{replicate}
 use Rattle.std.specs.List.{flat_map}

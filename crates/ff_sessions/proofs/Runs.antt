@@ -16,7 +16,7 @@ use Rattle.ff_trace.specs.Within.{AreWithin}
 use Rattle.ff_trace.specs.declared.row.Row.{Row}
 use Rattle.ff_sessions.specs.Begun.{IsBegun, IsRun, setup_in}
 use Rattle.ff_sessions.specs.Closing.{IsClosedSession}
-use Rattle.ff_sessions.specs.Following.{Follow, GoesOn, IsGoneOn, IsUnderWay, IsNextStep, MayRun, most_between, place_after, stops_left}
+use Rattle.ff_sessions.specs.Following.{Follow, GoesOn, IsGoneOn, IsUnderWay, IsNextStep, MayRun, most_between, cursor_after, stops_left}
 use Rattle.ff_sessions.specs.Items.{Item, items_of}
 use Rattle.ff_sessions.specs.Making.{HasRoomFor, most_operations}
 use Rattle.ff_sessions.specs.Sessions.{AreSessionsOf, Setup, first_start, start_after}
@@ -38,7 +38,7 @@ is_mounted (Some m) stop stopped none = refl
 
 -- where no session is open behind one that has an image, nothing is left
 ends_of : {T E : Type 0} (setup : Setup) (rows : List Row) (stop : Stop) (lost : Lost FlashState T E) (closed : Closed T E)
-    (next : Option (Open T E)) → IsClosedSession setup.geometry lost closed → IfNone next (IsSome closed.mounted → place_after stop ≡ None)
+    (next : Option (Open T E)) → IsClosedSession setup.geometry lost closed → IfNone next (IsSome closed.mounted → cursor_after stop ≡ None)
     → IfNone next (closed.session.stop ≡ None → items_behind rows stop ≡ [])
 ends_of setup rows stop lost closed (Some later) closes ends = tt
 ends_of setup rows stop lost closed None closes ends = λ imaged. items_none rows stop (ends (is_mounted closed.mounted closed.session.stop closes.stopped imaged))
@@ -137,7 +137,7 @@ runs_first setup rows core begun room within =
       follow = (refl, whole);
       may_run = record {
         begun = begun;
-        place = omega arith;
+        cursor = omega arith;
         room = subst (λ (items : List Item). HasRoomFor core items) whole room;
         life = subst (λ (items : List Item). 0 + most_operations * length items + most_between * (stops_left 0 setup.plan items + 1) ≤ 2 ^ 61)
             whole (omega arith);

@@ -19,7 +19,7 @@ use Rattle.ff_store.specs.PageStore.{PageStoreView}
 use Rattle.ff_trace.specs.declared.row.Row.{Row}
 use Rattle.ff_sessions.specs.Begun.{IsBegun, IsRun, resumed_start}
 use Rattle.ff_sessions.specs.Closing.{IsClosedSession, IsSessionOf}
-use Rattle.ff_sessions.specs.Following.{GoesOn, IsOpened, CanGoOn, MayRun, most_between, place_after, stops_left}
+use Rattle.ff_sessions.specs.Following.{GoesOn, IsOpened, CanGoOn, MayRun, most_between, cursor_after, stops_left}
 use Rattle.ff_sessions.specs.Items.{Item, items_of}
 use Rattle.ff_sessions.specs.Making.{most_operations}
 use Rattle.ff_sessions.specs.Remounts.{HasRemounted}
@@ -28,7 +28,7 @@ use Rattle.ff_sessions.specs.Stops.{IsStopWithin, ending_of, items_at, items_beh
 use Rattle.ff_sessions.specs.declared.chain.Open.{Open}
 use Rattle.ff_sessions.specs.declared.closing.Closed.{Closed}
 use Rattle.ff_sessions.specs.declared.session.Session.{Session}
-use Rattle.ff_sessions.specs.declared.stop.Place.{Place}
+use Rattle.ff_sessions.specs.declared.stop.Cursor.{Cursor}
 use Rattle.ff_sessions.specs.declared.stop.Stop.{Stop}
 use Rattle.ff_sessions.specs.declared.stop.Stop.TheVariants as stops
 use Rattle.ff_sessions.proofs.Fewer.{fewer_cut, fewer_loss}
@@ -39,7 +39,7 @@ pub told_is : (flash : FlashState) (plan : Planned) → flash.plan ≡ Some plan
 told_is flash plan is = rw is refl
 
 -- the session of what a run of its rows left is good, and took its items
-good_of : {T E : Type 0} (setup : Setup) (start : Start) (rows : List Row) (at : Place) (stop : Stop) (lost : Lost FlashState T E)
+good_of : {T E : Type 0} (setup : Setup) (start : Start) (rows : List Row) (at : Cursor) (stop : Stop) (lost : Lost FlashState T E)
     (session : Session) → IsRun setup start rows at stop lost → IsSessionOf setup.geometry lost session
     → IsGood setup start (arrive_by setup.geometry (ending_of stop lost.flash)) session
 good_of setup start rows at stop lost session ran of =
@@ -54,7 +54,7 @@ good_of setup start rows at stop lost session ran of =
       image = rw (of.nv, of.flash) of.image;
     }
 
-pub next_of : {T E : Type 0} (setup : Setup) (start : Start) (rows : List Row) (at : Place) (stop : Stop) (lost : Lost FlashState T E)
+pub next_of : {T E : Type 0} (setup : Setup) (start : Start) (rows : List Row) (at : Cursor) (stop : Stop) (lost : Lost FlashState T E)
     (session : Session) → IsRun setup start rows at stop lost → IsSessionOf setup.geometry lost session
     → IsNextSession setup start session (items_at rows at) (items_behind rows stop)
 next_of setup start rows at stop lost session ran of = record {
@@ -96,7 +96,7 @@ both_some None p q f = tt
 both_some (Some m) p q f = f m p q
 
 -- a session may begin over the mounted parts, where there are any
-pub parts_of : {T E : Type 0} (setup : Setup) (start : Start) (rows : List Row) (at : Place) (stop : Stop) (lost : Lost FlashState T E)
+pub parts_of : {T E : Type 0} (setup : Setup) (start : Start) (rows : List Row) (at : Cursor) (stop : Stop) (lost : Lost FlashState T E)
     (geometry : Geometry) (closed : Closed T E) → IsRun setup start rows at stop lost → IsClosedSession geometry lost closed
     → IfSome closed.mounted (λ m. CanGoOn geometry closed.session m.store m.cache m.marks)
 parts_of setup start rows at stop lost geometry closed ran closes =
@@ -115,7 +115,7 @@ start_same setup lost session store cache marks image of mounted =
     rw (mounted.flash_is, of.nv, of.flash) refl
 
 -- by the same setup
-setup_same : {T E : Type 0} (setup : Setup) (start : Start) (rows : List Row) (at : Place) (stop : Stop) (lost : Lost FlashState T E)
+setup_same : {T E : Type 0} (setup : Setup) (start : Start) (rows : List Row) (at : Cursor) (stop : Stop) (lost : Lost FlashState T E)
     (store : PageStoreView) (cache : CacheView) (marks : List ℕ) (image : Content) (floor : ℕ) → IsRun setup start rows at stop lost
     → HasRemounted setup.geometry lost.nv lost.flash store cache marks image → floor ≡ lost.tuner.floor
     → setup_with setup.geometry (told_plan store.world.flash) floor ≡ setup
@@ -125,45 +125,45 @@ setup_same setup start rows at stop lost store cache marks image floor ran mount
     rw (told, floor_is, ran.floor) refl
 
 -- where the rows go on, the items behind the stop are those from there on
-items_on : (rows : List Row) (stop : Stop) (place : Place) → place_after stop ≡ Some place
-    → items_behind rows stop ≡ items_at rows place
-items_on rows (stops.Cut at) place is = ap (items_at rows) (same_Some at place is)
-items_on rows (stops.Power row arrive) place is =
-    items_whole (drop (row + 1) rows) ∙ ap (items_at rows) (same_Some (record { row = row + 1; made = 0 }) place is)
-items_on rows stops.End place is = absurd (none-some place is)
+items_on : (rows : List Row) (stop : Stop) (cursor : Cursor) → cursor_after stop ≡ Some cursor
+    → items_behind rows stop ≡ items_at rows cursor
+items_on rows (stops.Cut at) cursor is = ap (items_at rows) (same_Some at cursor is)
+items_on rows (stops.Power row arrive) cursor is =
+    items_whole (drop (row + 1) rows) ∙ ap (items_at rows) (same_Some (record { row = row + 1; made = 0 }) cursor is)
+items_on rows stops.End cursor is = absurd (none-some cursor is)
 
 -- where they don't, none is left
-pub items_none : (rows : List Row) (stop : Stop) → place_after stop ≡ None → items_behind rows stop ≡ []
+pub items_none : (rows : List Row) (stop : Stop) → cursor_after stop ≡ None → items_behind rows stop ≡ []
 items_none rows (stops.Cut at) is = absurd (none-some at (sym is))
 items_none rows (stops.Power row arrive) is = absurd (none-some (record { row = row + 1; made = 0 }) (sym is))
 items_none rows stops.End is = refl
 
 -- where the rows go on is among them, or behind the last
-place_within : (count : ℕ) (stop : Stop) (place : Place) → IsStopWithin count stop → place_after stop ≡ Some place
-    → place.row ≤ count
-place_within count (stops.Cut at) place within is =
-    let same = ap (λ (p : Place). p.row) (same_Some at place is) in omega arith
-place_within count (stops.Power row arrive) place within is =
-    let same = ap (λ (p : Place). p.row) (same_Some (record { row = row + 1; made = 0 }) place is) in omega arith
-place_within count stops.End place within is = absurd (none-some place is)
+cursor_within : (count : ℕ) (stop : Stop) (cursor : Cursor) → IsStopWithin count stop → cursor_after stop ≡ Some cursor
+    → cursor.row ≤ count
+cursor_within count (stops.Cut at) cursor within is =
+    let same = ap (λ (p : Cursor). p.row) (same_Some at cursor is) in omega arith
+cursor_within count (stops.Power row arrive) cursor within is =
+    let same = ap (λ (p : Cursor). p.row) (same_Some (record { row = row + 1; made = 0 }) cursor is) in omega arith
+cursor_within count stops.End cursor within is = absurd (none-some cursor is)
 
 -- fewer losses of power are left behind a stop
-fewer_behind : {T E : Type 0} (setup : Setup) (start : Start) (rows : List Row) (at : Place) (stop : Stop) (place : Place)
-    (lost : Lost FlashState T E) (new : ℕ) → IsRun setup start rows at stop lost → place_after stop ≡ Some place
+fewer_behind : {T E : Type 0} (setup : Setup) (start : Start) (rows : List Row) (at : Cursor) (stop : Stop) (cursor : Cursor)
+    (lost : Lost FlashState T E) (new : ℕ) → IsRun setup start rows at stop lost → cursor_after stop ≡ Some cursor
     → lost.flash.operations ≤ new
     → stops_left new setup.plan (items_behind rows stop) + 1 ≤ stops_left start.operations setup.plan (items_at rows at)
-fewer_behind setup start rows at (stops.Cut cut) place lost new ran is rise =
+fewer_behind setup start rows at (stops.Cut cut) cursor lost new ran is rise =
     subst (λ (plan : Planned). stops_left new plan (items_at rows cut) + 1 ≤ stops_left start.operations plan (items_at rows at))
     (told_is lost.flash setup.plan ran.plan)
     (fewer_cut start.operations new lost.flash (unwrap_or (arrive_of_cut lost.flash) 0) (items_at rows at) ran.work
     (items_at rows cut) ran.cut (ran.counted (unwrap_or (arrive_of_cut lost.flash) 0) ran.cut) rise ran.taken)
-fewer_behind setup start rows at (stops.Power row arrive) place lost new ran is rise =
+fewer_behind setup start rows at (stops.Power row arrive) cursor lost new ran is rise =
     let no_fall = ran.no_fall in
     fewer_loss start.operations new setup.plan arrive (items_at rows at) ran.work (items_of (drop (row + 1) rows)) ran.taken (omega arith)
-fewer_behind setup start rows at stops.End place lost new ran is rise = absurd (none-some place is)
+fewer_behind setup start rows at stops.End cursor lost new ran is rise = absurd (none-some cursor is)
 
 -- the items that a session took and those that it left are not more than there were
-taken_few : {T E : Type 0} (setup : Setup) (start : Start) (rows : List Row) (at : Place) (stop : Stop) (lost : Lost FlashState T E)
+taken_few : {T E : Type 0} (setup : Setup) (start : Start) (rows : List Row) (at : Cursor) (stop : Stop) (lost : Lost FlashState T E)
     → (ran : IsRun setup start rows at stop lost) → length ran.work + length (items_behind rows stop) ≤ length (items_at rows at)
 taken_few setup start rows at stop lost ran =
     let left = items_behind rows stop in
@@ -207,17 +207,17 @@ module _ {T E : Type 0} (setup : Setup) (start : Start) (rows : List Row) (runni
   pub goes_on : GoesOn setup rows closed.session (items_at rows running.at) (items_behind rows stop) start later
   goes_on =
       let session = closed.session in
-      let left_is = items_on rows stop later.at opens.place in
+      let left_is = items_on rows stop later.at opens.cursor in
       let operations = ap (λ (f : FlashState). f.operations) closes.session.flash in
       let new = (start_after setup session).operations in
       let few = remount_few setup.geometry session.nv session.flash may.begun.limits in
-      let fewer = fewer_behind setup start rows running.at stop later.at lost new ran opens.place (omega arith) in
+      let fewer = fewer_behind setup start rows running.at stop later.at lost new ran opens.cursor (omega arith) in
       record {
         imaged = imaged;
         left_is = left_is;
         may_run = record {
           begun = begun_on;
-          place = place_within (length rows) stop later.at ran.within opens.place;
+          cursor = cursor_within (length rows) stop later.at ran.within opens.cursor;
           room = opens.room;
           life = subst (λ (items : List Item). new + most_operations * length items + most_between * (stops_left new setup.plan items + 1) ≤ 2 ^ 61)
               left_is

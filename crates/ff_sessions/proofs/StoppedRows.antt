@@ -13,7 +13,7 @@ use Rattle.ff_sessions.specs.Making.{HasDone, HasRoomFor, IsOpen, RisesBy, Stops
 use Rattle.ff_sessions.specs.RowStops.{IsCutIn, RowRuns}
 use Rattle.ff_sessions.specs.Stops.{items_at, items_from, row_left}
 use Rattle.ff_sessions.specs.declared.rows.RowStop.TheVariants as row_stops
-use Rattle.ff_sessions.specs.declared.stop.Place.{Place}
+use Rattle.ff_sessions.specs.declared.stop.Cursor.{Cursor}
 use Rattle.ff_sessions.specs.declared.stop.Stop.TheVariants as stops
 use Rattle.ff_sessions.proofs.Making.{cut_then, room_front, room_left, went_none, went_then}
 use Rattle.ff_sessions.proofs.Numbers.{next_none}
@@ -30,27 +30,27 @@ pub caller_at : (rows : List Row) (i : ℕ) (row : Row) → All IsOfCaller rows 
 caller_at rows i row all within is =
     subst IsOfCaller (sym is) (All-get_or IsOfCaller rows i row within all)
 
--- the items from a place on up to another were done
-pub record HasCome {T E : Type 0} (old : CoreView T E) (rows : List Row) (at : Place) (new : CoreView T E) (numbers : List ℕ)
+-- the items from a cursor on up to another were done
+pub record HasCome {T E : Type 0} (old : CoreView T E) (rows : List Row) (at : Cursor) (new : CoreView T E) (numbers : List ℕ)
     (row made : ℕ) : Type 0 where
   pub items : List Item
   pub split : items_at rows at ≡ items ++ items_from made (drop row rows)
   pub done : HasDone old new numbers items
 
-pub come_none : {T E : Type 0} (core : CoreView T E) (rows : List Row) (at : Place) (numbers : List ℕ) → IsOpen core numbers
+pub come_none : {T E : Type 0} (core : CoreView T E) (rows : List Row) (at : Cursor) (numbers : List ℕ) → IsOpen core numbers
     → HasCome core rows at core numbers at.row at.made
 come_none core rows at numbers opened =
     record { items = []; split = refl; done = went_none core numbers opened }
 
 -- the items that are left are those of a row and those behind it
-split_here : (rows : List Row) (at : Place) (items : List Item) (i made : ℕ) (row : Row) → i < length rows → row ≡ get_or rows i row
+split_here : (rows : List Row) (at : Cursor) (items : List Item) (i made : ℕ) (row : Row) → i < length rows → row ≡ get_or rows i row
     → items_at rows at ≡ items ++ items_from made (drop i rows)
     → items_at rows at ≡ items ++ (row_left made row ++ items_of (drop (i + 1) rows))
 split_here rows at items i made row within is split =
     split ∙ ap (λ (left : List Item). items ++ left) (items_here rows i made row within is)
 
 -- there is room for a row
-pub room_row : {T E : Type 0} (a b : CoreView T E) (rows : List Row) (at : Place) (numbers : List ℕ) (i made : ℕ) (row : Row)
+pub room_row : {T E : Type 0} (a b : CoreView T E) (rows : List Row) (at : Cursor) (numbers : List ℕ) (i made : ℕ) (row : Row)
     → i < length rows → row ≡ get_or rows i row → HasRoomFor a (items_at rows at) → HasCome a rows at b numbers i made
     → HasRoomFor b (row_left made row)
 room_row a b rows at numbers i made row within is room come =
@@ -59,7 +59,7 @@ room_row a b rows at numbers i made row within is room come =
     (subst (λ (items : List Item). HasRoomFor a items) (split_here rows at come.items i made row within is come.split) room) come.done)
 
 -- a row was done
-pub come_row : {T E : Type 0} (a b c : CoreView T E) (rows : List Row) (at : Place) (m n : List ℕ) (i made : ℕ) (row : Row)
+pub come_row : {T E : Type 0} (a b c : CoreView T E) (rows : List Row) (at : Cursor) (m n : List ℕ) (i made : ℕ) (row : Row)
     → i < length rows → row ≡ get_or rows i row → HasCome a rows at b m i made → HasDone b c n (row_left made row)
     → HasCome a rows at c n (i + 1) 0
 come_row a b c rows at m n i made row within is come done = record {
@@ -78,7 +78,7 @@ rise_over a b m items done =
     record { no_fall = done.rise.no_fall; most = omega arith }
 
 -- all rows were made
-pub stops_end : {T E : Type 0} (a b : CoreView T E) (rows : List Row) (at : Place) (m : List ℕ) (i made : ℕ) → length rows ≤ i
+pub stops_end : {T E : Type 0} (a b : CoreView T E) (rows : List Row) (at : Cursor) (m : List ℕ) (i made : ℕ) → length rows ≤ i
     → HasCome a rows at b m i made → StopsAt a rows at stops.End b
 stops_end a b rows at m i made past come = record {
   items = come.items;
@@ -91,7 +91,7 @@ stops_end a b rows at m i made past come = record {
 }
 
 -- a row of power came
-pub stops_power : {T E : Type 0} (a b c : CoreView T E) (rows : List Row) (at : Place) (m n : List ℕ) (i made arrive : ℕ) (row : Row)
+pub stops_power : {T E : Type 0} (a b c : CoreView T E) (rows : List Row) (at : Cursor) (m n : List ℕ) (i made arrive : ℕ) (row : Row)
     → i < length rows → row ≡ get_or rows i row → HasCome a rows at b m i made → RowRuns b row made (row_stops.Power arrive) c n
     → StopsAt a rows at (stops.Power i arrive) c
 stops_power a b c rows at m n i made arrive row within is come runs =
@@ -110,7 +110,7 @@ stops_power a b c rows at m n i made arrive row within is come runs =
     }
 
 -- a call or turn of a row was cut
-pub stops_cut : {T E : Type 0} (a b c : CoreView T E) (rows : List Row) (at : Place) (m : List ℕ) (i made more : ℕ) (row : Row)
+pub stops_cut : {T E : Type 0} (a b c : CoreView T E) (rows : List Row) (at : Cursor) (m : List ℕ) (i made more : ℕ) (row : Row)
     → i < length rows → row ≡ get_or rows i row → HasCome a rows at b m i made → IsCutIn b c (row_left made row) (row_left more row)
     → StopsAt a rows at (stops.Cut (record { row = i; made = more })) c
 stops_cut a b c rows at m i made more row within is come cut =

@@ -16,7 +16,7 @@ use Rattle.ff_sessions.specs.Items.{IsWork, Item}
 use Rattle.ff_sessions.specs.Making.{most_operations}
 use Rattle.ff_sessions.specs.Sessions.{MayLeave, Setup, arrive_by, cut_by, ending_items, setup_with}
 use Rattle.ff_sessions.specs.Stops.{IsStopWithin, ending_of, items_at, items_behind}
-use Rattle.ff_sessions.specs.declared.stop.Place.{Place}
+use Rattle.ff_sessions.specs.declared.stop.Cursor.{Cursor}
 use Rattle.ff_sessions.specs.declared.stop.Stop.{Stop}
 
 -- the setup of a run of which a core is a session
@@ -36,9 +36,9 @@ pub record IsBegun {T E : Type 0} (setup : Setup) (start : Start) (core : CoreVi
   pub on : (flash_under core.hierarchy).on ≡ true
   pub operations : (flash_under core.hierarchy).operations ≡ start.operations
 
--- a session that began so took the items from a place in the rows on up to a stop, ended by a loss of power, and left
+-- a session that began so took the items from a cursor in the rows on up to a stop, ended by a loss of power, and left
 -- what it owes
-pub record IsRun {T E : Type 0} (setup : Setup) (start : Start) (rows : List Row) (at : Place)
+pub record IsRun {T E : Type 0} (setup : Setup) (start : Start) (rows : List Row) (at : Cursor)
     (stop : Stop) (lost : Lost FlashState T E) : Type 0 where
   pub work : List Item
   pub taken : items_at rows at

@@ -19,7 +19,7 @@ use Rattle.ff_sessions.specs.declared.chain.Open.{Open}
 use Rattle.ff_sessions.specs.declared.chain.Step.{Step}
 use Rattle.ff_sessions.specs.declared.closing.Closed.{Closed}
 use Rattle.ff_sessions.specs.declared.session.Session.{Session}
-use Rattle.ff_sessions.specs.declared.stop.Place.{Place}
+use Rattle.ff_sessions.specs.declared.stop.Cursor.{Cursor}
 use Rattle.ff_sessions.specs.declared.stop.Stop.{Stop}
 use Rattle.ff_sessions.specs.declared.stop.Stop.TheVariants as stops
 
@@ -44,11 +44,11 @@ Follow setup start items (session ∷ later) next left =
 abbrev pub most_between : ℕ
 most_between = 2 ^ 17
 
--- a session that begins so has room and life for the rows from a place on, and for all sessions behind it
+-- a session that begins so has room and life for the rows from a cursor on, and for all sessions behind it
 pub record MayRun {T E : Type 0} (setup : Setup) (start : Start) (rows : List Row) (running : Open T E)
     : Type 0 where
   pub begun : IsBegun setup start running.core
-  pub place : running.at.row ≤ length rows
+  pub cursor : running.at.row ≤ length rows
   pub room : HasRoomFor running.core (items_at rows running.at)
   pub life : start.operations + most_operations * length (items_at rows running.at)
       + most_between * (stops_left start.operations setup.plan (items_at rows running.at) + 1)
@@ -74,7 +74,7 @@ pub record GoesOn {T E : Type 0} (setup : Setup) (rows : List Row) (session : Se
       ≤ stops_left start.operations setup.plan items
 
 -- a session took its items and is good. The next one is open, or the run is over
-pub record IsNextStep {T E : Type 0} (setup : Setup) (start : Start) (rows : List Row) (at : Place)
+pub record IsNextStep {T E : Type 0} (setup : Setup) (start : Start) (rows : List Row) (at : Cursor)
     (step : Step T E) : Type 0 where
   pub left : List Item
   pub next : IsNextSession setup start step.session (items_at rows at) left
@@ -82,10 +82,10 @@ pub record IsNextStep {T E : Type 0} (setup : Setup) (start : Start) (rows : Lis
   pub ends : IfNone step.next (step.session.stop ≡ None → left ≡ [])
 
 -- where the rows go on behind a stop, if they do
-abbrev pub place_after : Stop → Option Place
-place_after (stops.Cut place) = Some place
-place_after (stops.Power row arrive) = Some (record { row = row + 1; made = 0 })
-place_after stops.End = None
+abbrev pub cursor_after : Stop → Option Cursor
+cursor_after (stops.Cut cursor) = Some cursor
+cursor_after (stops.Power row arrive) = Some (record { row = row + 1; made = 0 })
+cursor_after stops.End = None
 
 -- the image of a session that is over is that of these mounted parts, and the next one may begin over them
 pub record CanGoOn (geometry : Geometry) (session : Session) (store : PageStoreView)
@@ -97,7 +97,7 @@ pub record CanGoOn (geometry : Geometry) (session : Session) (store : PageStoreV
 -- a session began over the mounted parts, from the image of the one that is over, with room for the rows behind the stop
 pub record IsOpened {T E : Type 0} (geometry : Geometry) (rows : List Row) (closed : Closed T E)
     (stop : Stop) (running : Open T E) : Type 0 where
-  pub place : place_after stop ≡ Some running.at
+  pub cursor : cursor_after stop ≡ Some running.at
   pub begun : IsSomeAnd closed.mounted (λ m. (base : Content) → closed.session.image ≡ Some base
       → IsBegun (setup_with geometry (told_plan m.store.world.flash) closed.tuner.floor)
       (resumed_start base closed.session.account.events m.store.world.flash) running.core)
@@ -108,4 +108,4 @@ pub record IsGoneOn {T E : Type 0} (geometry : Geometry) (rows : List Row) (clos
     (stop : Stop) (step : Step T E) : Type 0 where
   pub session : step.session ≡ closed.session
   pub next : IfSome step.next (IsOpened geometry rows closed stop)
-  pub ends : IfNone step.next (IsSome closed.mounted → place_after stop ≡ None)
+  pub ends : IfNone step.next (IsSome closed.mounted → cursor_after stop ≡ None)

@@ -10,7 +10,7 @@ use Rattle.ff_model.specs.declared.history.Entry.{Entry}
 use Rattle.ff_trace.specs.declared.row.Row.{Row}
 use Rattle.ff_sessions.specs.Items.{BeginWithWork, IsWork, Item, call, turn}
 use Rattle.ff_sessions.specs.Stops.{IsStopWithin, items_at, items_behind, stop_items}
-use Rattle.ff_sessions.specs.declared.stop.Place.{Place}
+use Rattle.ff_sessions.specs.declared.stop.Cursor.{Cursor}
 use Rattle.ff_sessions.specs.declared.stop.Stop.{Stop}
 use Rattle.ff_sessions.specs.declared.stop.Stop.TheVariants as stops
 
@@ -72,13 +72,13 @@ pub record IsCutBehind {T E : Type 0} (old new : CoreView T E) (items : List Ite
 
 -- the power is as a stop says: a cut turned it off in front of a call or turn, and else it is on
 abbrev pub IsPoweredAt : {T E : Type 0} → CoreView T E → Stop → List Item → CoreView T E → Type 0
-IsPoweredAt old (stops.Cut place) left new =
+IsPoweredAt old (stops.Cut cursor) left new =
     BeginWithWork left × IsCutOff (flash_under old.hierarchy) (flash_under new.hierarchy)
 IsPoweredAt old (stops.Power row arrive) left new = (flash_under new.hierarchy).on ≡ true
 IsPoweredAt old stops.End left new = (flash_under new.hierarchy).on ≡ true
 
--- a session that was open made the rows from a place on up to a stop
-pub record StopsAt {T E : Type 0} (old : CoreView T E) (rows : List Row) (at : Place) (stop : Stop)
+-- a session that was open made the rows from a cursor on up to a stop
+pub record StopsAt {T E : Type 0} (old : CoreView T E) (rows : List Row) (at : Cursor) (stop : Stop)
     (new : CoreView T E) : Type 0 where
   pub items : List Item
   pub split : items_at rows at ≡ items ++ (stop_items stop ++ items_behind rows stop)

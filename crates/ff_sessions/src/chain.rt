@@ -6,7 +6,7 @@ ghost use Rattle.ff_flash.specs.Plans.{IsPlan, planned_of};
 ghost use Rattle.ff_trace.specs.Tally.{most_rows, most_turns};
 ghost use Rattle.ff_trace.specs.Within.{AreWithin, IsOfCaller, turns_asked};
 ghost use Rattle.ff_sessions.specs.Begun.{setup_in};
-ghost use Rattle.ff_sessions.specs.Following.{IsGoneOn, IsNextStep, CanGoOn, MayRun, place_after};
+ghost use Rattle.ff_sessions.specs.Following.{IsGoneOn, IsNextStep, CanGoOn, MayRun, cursor_after};
 ghost use Rattle.ff_sessions.specs.Sessions.{AreSessionsOf, setup_with};
 ghost use Rattle.ff_sessions.specs.Stops.{IsStopWithin};
 
@@ -14,7 +14,7 @@ use crate::closing::{Closed, close};
 use crate::opening::{open_first, open_next};
 use crate::running::{Ran, run_session};
 use crate::session::Session;
-use crate::stop::{Place, Stop};
+use crate::stop::{Cursor, Stop};
 use ff_base::{Geometry, NoMemory};
 use ff_core::Core;
 use ff_evict::{Pick, Picker};
@@ -30,7 +30,7 @@ pub const MOST_SESSIONS: u32 = 17;
 #[derive(Drop)]
 struct Open<T: Tune, E: Pick> {
     core: Core<SimFlash, T, E>,
-    at: Place,
+    at: Cursor,
 }
 
 // A session that is over, and the one behind it, where the run goes on.
@@ -41,13 +41,13 @@ struct Step<T: Tune, E: Pick> {
 }
 
 // Where so many rows go on behind a stop.
-fn behind(stop: Stop, count: usize) -> Option<Place>
+fn behind(stop: Stop, count: usize) -> Option<Cursor>
     requires { IsStopWithin count stop }
-    ensures { result ≡ place_after stop }
+    ensures { result ≡ cursor_after stop }
 {
     match stop {
         Stop::Cut(at) => Some(at),
-        Stop::Power { row, .. } => Some(Place {
+        Stop::Power { row, .. } => Some(Cursor {
             row: row + 1,
             made: 0,
         }),
@@ -138,7 +138,7 @@ pub fn run<T: Tune + Drop, E: Pick + Drop>(
     let core = open_first(alloc, geometry, plan, tuner, picker, rows)?;
     let mut running = Open {
         core,
-        at: Place { row: 0, made: 0 },
+        at: Cursor { row: 0, made: 0 },
     };
     for _ in 0..MOST_SESSIONS {
         let Step { session, next } = next_session(alloc, running, rows, &geometry)?;

@@ -11,7 +11,7 @@ ghost use Rattle.ff_sessions.specs.Making.{HasRoomFor, IsOpen, StopsAt};
 ghost use Rattle.ff_sessions.specs.RowStops.{RowRuns};
 ghost use Rattle.ff_sessions.specs.Stops.{items_at, row_left};
 
-use crate::stop::{Place, Stop};
+use crate::stop::{Cursor, Stop};
 use ff_base::Caller;
 use ff_core::{Back, Core, Driven};
 use ff_evict::Pick;
@@ -30,15 +30,15 @@ enum RowStop {
     Power(u32),
 }
 
-/// Makes the calls and turns of the rows from a place on, up to a loss of power. Each caller's calls are numbered from
+/// Makes the calls and turns of the rows from a cursor on, up to a loss of power. Each caller's calls are numbered from
 /// 0.
 pub fn make_rows<F: Flash, T: Tune, E: Pick>(
     core: &mut Core<F, T, E>,
     rows: &[Row],
-    at: Place,
+    at: Cursor,
 ) -> Stop
     requires callers { All IsOfCaller rows.now }
-    requires place { at.row ≤ length rows.now }
+    requires cursor { at.row ≤ length rows.now }
     requires on { (flash_under core.old.hierarchy).on ≡ true }
     requires calls { core.old.history.entries ≡ [] }
     requires room { HasRoomFor core.old (items_at rows.now at) }
@@ -53,10 +53,10 @@ fn make_each<F: Flash, T: Tune, E: Pick>(
     core: &mut Core<F, T, E>,
     numbers: &mut [u32],
     rows: &[Row],
-    at: Place,
+    at: Cursor,
 ) -> Stop
     requires callers { All IsOfCaller rows.now }
-    requires place { at.row ≤ length rows.now }
+    requires cursor { at.row ≤ length rows.now }
     requires on { (flash_under core.old.hierarchy).on ≡ true }
     requires calls { core.old.history.entries ≡ [] }
     requires numbers { numbers.old ≡ replicate 64 0 }
@@ -67,7 +67,7 @@ fn make_each<F: Flash, T: Tune, E: Pick>(
     for row in at.row..rows.len() {
         match make_row(core, numbers, &rows[row], made) {
             RowStop::Done => made = 0,
-            RowStop::Cut(made) => return Stop::Cut(Place { row, made }),
+            RowStop::Cut(made) => return Stop::Cut(Cursor { row, made }),
             RowStop::Power(arrive) => return Stop::Power { row, arrive },
         }
     }

@@ -9,7 +9,7 @@ ghost use Rattle.ff_sessions.specs.Sessions.{arrive_by};
 ghost use Rattle.ff_sessions.specs.Stops.{ending_of, items_at};
 
 use crate::rows::make_rows;
-use crate::stop::{Place, Stop};
+use crate::stop::{Cursor, Stop};
 use ff_base::Geometry;
 use ff_core::{Core, Lost};
 use ff_evict::Pick;
@@ -37,14 +37,14 @@ fn arrival(stop: Stop, flash: &SimFlash, geometry: &Geometry) -> u32
     }
 }
 
-/// Makes the rows from a place on, up to a loss of power, and ends the session by that.
+/// Makes the rows from a cursor on, up to a loss of power, and ends the session by that.
 pub fn run_session<T: Tune + Drop, E: Pick + Drop>(
     core: Core<SimFlash, T, E>,
     rows: &[Row],
-    at: Place,
+    at: Cursor,
 ) -> Ran<T, E>
     requires callers { All IsOfCaller rows.now }
-    requires place { at.row ≤ length rows.now }
+    requires cursor { at.row ≤ length rows.now }
     requires begun { IsBegun (setup_in core) (start_of core) core }
     requires room { HasRoomFor core (items_at rows.now at) }
     ensures { IsRun (setup_in core) (start_of core) rows.now at result.stop result.lost }

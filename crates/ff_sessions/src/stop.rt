@@ -2,7 +2,7 @@
 
 /// A row, and how many of its turns were made.
 #[derive(Clone, Copy, Debug, PartialEq, Eq)]
-pub struct Place {
+pub struct Cursor {
     pub row: usize,
     pub made: u32,
 }
@@ -10,8 +10,8 @@ pub struct Place {
 /// How the rows of a session stop.
 #[derive(Clone, Copy, Debug, PartialEq, Eq)]
 pub enum Stop {
-    /// The call or turn at this place was cut.
-    Cut(Place),
+    /// The call or turn at this cursor was cut.
+    Cut(Cursor),
     /// The row is one of power, at which so many posts arrive.
     Power { row: usize, arrive: u32 },
     /// The rows are over.

@@ -14,7 +14,7 @@ use Rattle.ff_flash.specs.Plans.{RisesFrom, cut_at, cut_numbers, is_listed}
 use Rattle.ff_flash.specs.declared.plan.CutAt.{CutAt}
 use Rattle.ff_settings.specs.Bounds.{IsSettingsSound, event_fits, first_beyond, fits_in_cut, is_kept, is_within, rises_from, most_cuts, most_fails}
 use Rattle.ff_settings.specs.Names.{later_names, name_of, setting_names}
-use Rattle.ff_settings.specs.SettingsView.{SettingsView}
+use Rattle.ff_settings.specs.Settings.{SettingsView}
 use Rattle.ff_settings.specs.Values.{short}
 use Rattle.ff_settings.specs.declared.names.SettingName.{SettingName}
 use Rattle.ff_settings.proofs.Lists.{short-fits}

@@ -10,7 +10,7 @@ use Rattle.ff_base.specs.declared.limits.LimitName.TheVariants as limit
 use Rattle.ff_flash.specs.Plans.{IsPlan, cut_numbers, is_listed}
 use Rattle.ff_flash.specs.declared.plan.CutAt.{CutAt}
 use Rattle.ff_settings.specs.Names.{setting_names}
-use Rattle.ff_settings.specs.SettingsView.{SettingsView}
+use Rattle.ff_settings.specs.Settings.{SettingsView}
 use Rattle.ff_settings.specs.declared.names.SettingName.{SettingName}
 use Rattle.ff_settings.specs.declared.names.SettingName.TheVariants as name
 

@@ -1,7 +1,7 @@
 -- The settings of a document before their bounds are looked at.
 use Rattle.std.specs.Prelude.{List, map}
 use Rattle.ff_flash.specs.declared.plan.CutAt.{CutAt}
-use Rattle.ff_settings.specs.SettingsView.{SettingsView}
+use Rattle.ff_settings.specs.Settings.{SettingsView}
 use Rattle.ff_settings.specs.Values.{short}
 use Rattle.ff_settings.specs.declared.cuts.WideCut.{WideCut}
 use Rattle.ff_settings.specs.declared.reading.Given.{Given}

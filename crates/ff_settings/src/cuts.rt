@@ -7,7 +7,7 @@ ghost use Rattle.toml.specs.View.{table_view, view};
 ghost use Rattle.ff_settings.specs.Given.{as_cut, as_cuts, planned_cut};
 ghost use Rattle.ff_settings.specs.Kinds.{is_cut};
 ghost use Rattle.ff_settings.specs.Names.{cut_keys};
-ghost use Rattle.ff_settings.specs.Settings.{cut_in, cut_of};
+ghost use Rattle.ff_settings.specs.Document.{cut_in, cut_of};
 ghost use Rattle.ff_settings.specs.Values.{whole_number_of};
 
 use crate::document::value_at;

@@ -3,7 +3,7 @@
 ghost use Rattle.std.specs.Prelude.{◌≡◌, IfOk, option_map};
 ghost use Rattle.toml.specs.Data.{get_member};
 ghost use Rattle.toml.specs.View.{table_view, view};
-ghost use Rattle.ff_settings.specs.Settings.{IsReadAs};
+ghost use Rattle.ff_settings.specs.Document.{IsReadAs};
 
 use std::alloc::{AllocError, Global};
 use toml::{Table, Value};

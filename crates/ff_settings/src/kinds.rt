@@ -3,7 +3,7 @@
 ghost use Rattle.std.specs.Prelude.{◌≡◌, option_map};
 ghost use Rattle.toml.specs.View.{table_view, view};
 ghost use Rattle.ff_settings.specs.Kinds.{has_kind, is_cut, is_whole_number, may_be_list};
-ghost use Rattle.ff_settings.specs.Settings.{first_of_other_kind};
+ghost use Rattle.ff_settings.specs.Document.{first_of_other_kind};
 
 use crate::cuts::are_cuts;
 use crate::document::value_at;

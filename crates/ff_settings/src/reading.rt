@@ -6,7 +6,7 @@ ghost use Rattle.std.specs.List.{list_all};
 ghost use Rattle.ff_flash.specs.Plans.{planned_of};
 ghost use Rattle.ff_settings.specs.Bounds.{IsSettingsSound, first_beyond, fits_in_cut};
 ghost use Rattle.ff_settings.specs.Given.{as_cuts, given_view};
-ghost use Rattle.ff_settings.specs.Settings.{IsAnswer, answer_in, answer_of_kinds, answer_within, geometry_in, plan_in, settings_in, settings_view, size_in};
+ghost use Rattle.ff_settings.specs.Document.{IsAnswer, answer_in, answer_of_kinds, answer_within, geometry_in, plan_in, settings_in, settings_view, size_in};
 
 use crate::bounds::first_beyond;
 use crate::cuts::{WideCut, cuts_of, planned_cuts};

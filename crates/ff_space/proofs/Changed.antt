@@ -26,8 +26,8 @@ use Rattle.std.proofs.lemmas.List.Sums.{get_or-le-sum_by, sum_by-set}
 use Rattle.ff_space.specs.BlockTable.{
   CanEnd,
   IsInRange,
-  IsTableSound,
-  TableView,
+  IsBlockTableSound,
+  BlockTableView,
   after_collection,
   block_at,
   changed_at,
@@ -38,14 +38,14 @@ use Rattle.ff_space.specs.declared.block.BlockEntry.{BlockEntry}
 use Rattle.ff_space.specs.declared.block.BlockState.TheVariants.{Full, Held}
 
 -- the changed block
-pub block_at-changed_at : (table : TableView) (block : ℕ) (change : BlockEntry → BlockEntry)
+pub block_at-changed_at : (table : BlockTableView) (block : ℕ) (change : BlockEntry → BlockEntry)
     → IsInRange table block
     → block_at (changed_at table block change) block ≡ change (block_at table block)
 block_at-changed_at table block change within =
     get_or-set_same table.blocks block (change (block_at table block)) (waiting erased_block) within
 
 -- another block
-pub block_at-changed_at_other : (table : TableView) (block : ℕ) (change : BlockEntry → BlockEntry)
+pub block_at-changed_at_other : (table : BlockTableView) (block : ℕ) (change : BlockEntry → BlockEntry)
     (other : ℕ) → other ≢ block
     → block_at (changed_at table block change) other ≡ block_at table other
 block_at-changed_at_other table block change other apart =
@@ -53,12 +53,12 @@ block_at-changed_at_other table block change other apart =
     apart
 
 -- a change adds no block
-pub length-changed_at : (table : TableView) (block : ℕ) (change : BlockEntry → BlockEntry)
+pub length-changed_at : (table : BlockTableView) (block : ℕ) (change : BlockEntry → BlockEntry)
     → length (changed_at table block change).blocks ≡ length table.blocks
 length-changed_at table block change = length-set table.blocks block (change (block_at table block))
 
 -- what holds of the changed block and of every other one holds of each block
-pub each-changed_at : (P : ℕ → BlockEntry → Type 0) (table : TableView) (block : ℕ)
+pub each-changed_at : (P : ℕ → BlockEntry → Type 0) (table : BlockTableView) (block : ℕ)
     (change : BlockEntry → BlockEntry) → IsInRange table block
     → P block (change (block_at table block))
     → ((other : ℕ) → other ≢ block → P other (block_at table other))
@@ -74,10 +74,10 @@ each-changed_at P table block change within here there each = elim (cases_eq eac
 ]
 
 -- a table stays sound where the changed block is
-pub sound-changed_at : (table : TableView) (block : ℕ) (change : BlockEntry → BlockEntry)
-    → IsTableSound table → IsInRange table block
+pub sound-changed_at : (table : BlockTableView) (block : ℕ) (change : BlockEntry → BlockEntry)
+    → IsBlockTableSound table → IsInRange table block
     → IsBlockSound table.per_block (change (block_at table block))
-    → IsTableSound (changed_at table block change)
+    → IsBlockTableSound (changed_at table block change)
 sound-changed_at table block change sound within new = record {
   per_block = sound.per_block;
   count = rw (length-changed_at table block change) sound.count;
@@ -89,7 +89,7 @@ sound-changed_at table block change sound within new = record {
 }
 
 -- one block is changed: how many blocks pass a test
-pub count_by-changed_at : (p : BlockEntry → Bool) (table : TableView) (block : ℕ)
+pub count_by-changed_at : (p : BlockEntry → Bool) (table : BlockTableView) (block : ℕ)
     (change : BlockEntry → BlockEntry) → IsInRange table block
     → count_by p (changed_at table block change).blocks + cond (p (block_at table block)) 1 0
     ≡ count_by p table.blocks + cond (p (change (block_at table block))) 1 0
@@ -107,7 +107,7 @@ count_by-some p blocks block within passes =
     omega arith
 
 -- the two blocks of a collection are two
-pub apart_by_state : (table : TableView) (victim into : ℕ) → CanEnd table victim into
+pub apart_by_state : (table : BlockTableView) (victim into : ℕ) → CanEnd table victim into
     → victim ≢ into
 apart_by_state table victim into can same =
     let states : Full ≡ Held =
@@ -115,7 +115,7 @@ apart_by_state table victim into can same =
     absurd (cc)
 
 -- the victim after a collection
-pub block_at-after_victim : (table : TableView) (victim into : ℕ) → CanEnd table victim into
+pub block_at-after_victim : (table : BlockTableView) (victim into : ℕ) → CanEnd table victim into
     → block_at (after_collection table victim into) victim ≡ emptied (block_at table victim)
 block_at-after_victim table victim into can =
     let change = filled table.per_block (block_at table victim).mapped in
@@ -126,7 +126,7 @@ block_at-after_victim table victim into can =
     (block_at-changed_at_other table into change victim (apart_by_state table victim into can))
 
 -- the destination after a collection
-pub block_at-after_into : (table : TableView) (victim into : ℕ) → CanEnd table victim into
+pub block_at-after_into : (table : BlockTableView) (victim into : ℕ) → CanEnd table victim into
     → block_at (after_collection table victim into) into
     ≡ filled table.per_block (block_at table victim).mapped (block_at table into)
 block_at-after_into table victim into can =
@@ -136,7 +136,7 @@ block_at-after_into table victim into can =
     ∙ block_at-changed_at table into change can.held.in_range
 
 -- another block after a collection
-pub block_at-after_other : (table : TableView) (victim into other : ℕ) → other ≢ victim
+pub block_at-after_other : (table : BlockTableView) (victim into other : ℕ) → other ≢ victim
     → other ≢ into → block_at (after_collection table victim into) other ≡ block_at table other
 block_at-after_other table victim into other not_victim not_into =
     let change = filled table.per_block (block_at table victim).mapped in
@@ -144,7 +144,7 @@ block_at-after_other table victim into other not_victim not_into =
     ∙ block_at-changed_at_other table into change other not_into
 
 -- a collection adds no block
-pub length-after_collection : (table : TableView) (victim into : ℕ)
+pub length-after_collection : (table : BlockTableView) (victim into : ℕ)
     → length (after_collection table victim into).blocks ≡ length table.blocks
 length-after_collection table victim into =
     let change = filled table.per_block (block_at table victim).mapped in

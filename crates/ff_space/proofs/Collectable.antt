@@ -4,7 +4,7 @@ use Rattle.std.specs.Prelude.{count_by}
 use Rattle.std.proofs.lemmas.Bool.{cases_Bool, cases_lt, and_parts, lt-ltb, ltb-true}
 use Rattle.ff_space.proofs.Changed.{count_by-some}
 use Rattle.ff_space.specs.Blocks.{is_collectable, is_full}
-use Rattle.ff_space.specs.BlockTable.{IsTableSound, TableView, block_at, collectable_count, block_in}
+use Rattle.ff_space.specs.BlockTable.{IsBlockTableSound, BlockTableView, block_at, collectable_count, block_in}
 use Rattle.ff_space.specs.Choices.{IsAllMapped}
 use Rattle.ff_space.specs.declared.block.BlockEntry.{BlockEntry}
 use Rattle.ff_space.specs.declared.block.BlockState.{BlockState}
@@ -34,7 +34,7 @@ full_of Held full = cc
 full_of Waiting full = cc
 
 -- where none is counted, every full block has all its pages mapped
-pub none_counted : (table : TableView) → IsTableSound table
+pub none_counted : (table : BlockTableView) → IsBlockTableSound table
     → collectable_count table.per_block table.blocks ≡ 0 → IsAllMapped table
 none_counted table sound none block is = elim (cases_lt (block_at table block).mapped table.per_block) [
   | inl fewer ↦
@@ -47,7 +47,7 @@ none_counted table sound none block is = elim (cases_lt (block_at table block).m
 ]
 
 -- where one is counted, not all full blocks have
-pub some_counted : (table : TableView) → 0 < collectable_count table.per_block table.blocks
+pub some_counted : (table : BlockTableView) → 0 < collectable_count table.per_block table.blocks
     → IsAllMapped table → ⊥
 some_counted table some all =
     let found = counted (is_collectable table.per_block) table.blocks some in

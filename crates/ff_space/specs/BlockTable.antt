@@ -21,7 +21,7 @@ use Rattle.ff_space.specs.declared.block.BlockState.{BlockState}
 use Rattle.ff_space.specs.declared.block.BlockState.TheVariants.{Full, Held}
 
 -- how many pages a block has, and the blocks in their order
-pub record TableView : Type 0 where
+pub record BlockTableView : Type 0 where
   pub per_block : ℕ
   pub blocks : List BlockEntry
 
@@ -30,11 +30,11 @@ abbrev pub block_in : List BlockEntry → ℕ → BlockEntry
 block_in blocks block = slice_index_or blocks block (waiting erased_block)
 
 -- a block of the table
-abbrev pub block_at : TableView → ℕ → BlockEntry
+abbrev pub block_at : BlockTableView → ℕ → BlockEntry
 block_at table block = block_in table.blocks block
 
 -- the block is one of the table's
-abbrev pub IsInRange : TableView → ℕ → Type 0
+abbrev pub IsInRange : BlockTableView → ℕ → Type 0
 IsInRange table block = block < length table.blocks
 
 -- how many of the blocks are erased
@@ -46,12 +46,12 @@ abbrev pub collectable_count : ℕ → List BlockEntry → ℕ
 collectable_count per_block blocks = count_by (λ block. is_collectable per_block block) blocks
 
 -- the table with one block changed by this
-abbrev pub changed_at : TableView → ℕ → (BlockEntry → BlockEntry) → TableView
+abbrev pub changed_at : BlockTableView → ℕ → (BlockEntry → BlockEntry) → BlockTableView
 changed_at table block change =
     record table { blocks = slice_set table.blocks block (change (block_at table block)) }
 
 -- a table of which every block is erased
-abbrev pub new_table : Geometry → TableView
+abbrev pub new_table : Geometry → BlockTableView
 new_table geometry =
     record { per_block = geometry.per_block; blocks = replicate geometry.blocks erased_block }
 
@@ -62,7 +62,7 @@ pub record IsInState (blocks : List BlockEntry) (wanted : BlockState) (block : �
 
 -- a collection from the victim into the destination may end: the destination has as many programmed pages as it will
 -- have mapped ones
-pub record CanEnd (table : TableView) (victim into : ℕ) : Type 0 where
+pub record CanEnd (table : BlockTableView) (victim into : ℕ) : Type 0 where
   pub full : IsInState table.blocks Full victim
   pub held : IsInState table.blocks Held into
   pub room : (block_at table into).mapped + (block_at table victim).mapped
@@ -70,7 +70,7 @@ pub record CanEnd (table : TableView) (victim into : ℕ) : Type 0 where
 
 -- the table at the end of a collection: the victim's mapped pages are the destination's, which is held no more, and
 -- the victim waits, empty
-abbrev pub after_collection : TableView → ℕ → ℕ → TableView
+abbrev pub after_collection : BlockTableView → ℕ → ℕ → BlockTableView
 after_collection table victim into =
     changed_at
     (changed_at table into (filled table.per_block (block_at table victim).mapped))
@@ -78,7 +78,7 @@ after_collection table victim into =
     emptied
 
 -- what a table keeps: its sizes are those of a geometry, and every block is sound
-pub record IsTableSound (table : TableView) : Type 0 where
+pub record IsBlockTableSound (table : BlockTableView) : Type 0 where
   pub per_block : IsAllowed PerBlock table.per_block
   pub count : IsAllowed Blocks (length table.blocks)
   pub each : (block : ℕ) → IsInRange table block

@@ -1,6 +1,6 @@
 -- Which block is chosen: the least one with a property, looked at over all blocks.
 use Rattle.std.specs.Prelude.{ℕ, ◌+◌, ◌*◌, ◌/◌, ◌<◌, ◌≤◌, ◌≡◌, List}
-use Rattle.ff_space.specs.BlockTable.{IsInState, TableView, block_at, block_in, erased_count}
+use Rattle.ff_space.specs.BlockTable.{IsInState, BlockTableView, block_at, block_in, erased_count}
 use Rattle.ff_space.specs.declared.block.BlockEntry.{BlockEntry}
 use Rattle.ff_space.specs.declared.block.BlockState.TheVariants.{Erased, Open, Full}
 use Rattle.ff_space.specs.declared.table.Place.{Place}
@@ -29,30 +29,30 @@ pub record IsVictimBlock (per_block : ℕ) (blocks : List BlockEntry) (block : �
       → (block_in blocks other).mapped ≡ (block_in blocks block).mapped → block ≤ other
 
 -- every full block has all its pages mapped
-abbrev pub IsAllMapped : TableView → Type 0
+abbrev pub IsAllMapped : BlockTableView → Type 0
 IsAllMapped table = (block : ℕ) → IsInState table.blocks Full block
     → (block_at table block).mapped ≡ table.per_block
 
 -- the page is the write place of the least open block, and lies in it
-pub record IsFreePlace (table : TableView) (page : ℕ) : Type 0 where
+pub record IsFreePlace (table : BlockTableView) (page : ℕ) : Type 0 where
   pub block : ℕ
   pub least : IsLeast (IsInState table.blocks Open) block
   pub page_is : page ≡ block * table.per_block + (block_at table block).next
   pub lies_in : page / table.per_block ≡ block
 
 -- no block is open, two or more are erased, and this is the least of them
-pub record IsBlockToTake (table : TableView) (block : ℕ) : Type 0 where
+pub record IsBlockToTake (table : BlockTableView) (block : ℕ) : Type 0 where
   pub none_open : NoBlock (IsInState table.blocks Open)
   pub spare : 2 ≤ erased_count table.blocks
   pub least : IsLeast (IsInState table.blocks Erased) block
 
 -- no block is open, and at most one is erased
-pub record IsNoPlace (table : TableView) : Type 0 where
+pub record IsNoPlace (table : BlockTableView) : Type 0 where
   pub none_open : NoBlock (IsInState table.blocks Open)
   pub few : erased_count table.blocks < 2
 
 -- where the next page is programmed
-abbrev pub IsPlace : TableView → Place → Type 0
+abbrev pub IsPlace : BlockTableView → Place → Type 0
 IsPlace table (Free page) = IsFreePlace table page.0
 IsPlace table (TakeErased block) = IsBlockToTake table block.0
 IsPlace table Nowhere = IsNoPlace table

@@ -31,9 +31,9 @@ pub struct BlockTable {
 }
 
 impl Model for BlockTable {
-    ghost use Rattle.ff_space.specs.BlockTable.{TableView};
+    ghost use Rattle.ff_space.specs.BlockTable.{BlockTableView};
 
-    ghost Value = { TableView };
+    ghost Value = { BlockTableView };
 
     ghost use Rattle.ff_space.specs.BlockTableFields.{view_of, IsKept};
 
@@ -46,7 +46,7 @@ impl Model for BlockTable {
 const KEPT_ERASED: u32 = 1;
 
 impl BlockTable {
-    ghost use Rattle.ff_space.specs.BlockTable.{CanEnd, IsInRange, IsInState, IsTableSound, after_collection, block_at, changed_at, erased_count, new_table};
+    ghost use Rattle.ff_space.specs.BlockTable.{CanEnd, IsInRange, IsInState, IsBlockTableSound, after_collection, block_at, changed_at, erased_count, new_table};
     ghost use Rattle.ff_space.specs.Choices.{IsAllMapped, IsFreePlace, IsLeast, IsPlace, IsVictimBlock, NoBlock};
 
     /// A table of which every block is erased.
@@ -65,7 +65,7 @@ impl BlockTable {
 
     /// What every table keeps. For the prover alone.
     pub fn known(&self)
-        ensures { IsTableSound self.now }
+        ensures { IsBlockTableSound self.now }
     {
         let _ = &self.blocks;
     }

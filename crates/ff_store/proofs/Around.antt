@@ -5,11 +5,11 @@ use Rattle.ff_base.specs.declared.numbers.Block.{Block}
 use Rattle.ff_base.specs.declared.numbers.PageNo.{PageNo}
 use Rattle.ff_flash.specs.Cells.{Cell, cell_at, closed}
 use Rattle.ff_flash.specs.declared.spare.Spare.{Spare}
-use Rattle.ff_space.specs.BlockTable.{IsInState, TableView, block_at}
+use Rattle.ff_space.specs.BlockTable.{IsInState, BlockTableView, block_at}
 use Rattle.ff_space.specs.Choices.{NoBlock}
 use Rattle.ff_space.specs.declared.block.BlockState.{BlockState}
 use Rattle.ff_space.specs.declared.block.BlockState.TheVariants.{Erased, Full, Held, Waiting}
-use Rattle.ff_map.specs.PageMap.{MapView, mapping_of}
+use Rattle.ff_map.specs.PageMap.{PageMapView, mapping_of}
 use Rattle.ff_map.specs.declared.places.Mapping.{Mapping}
 use Rattle.ff_map.specs.declared.places.Move.{Move}
 use Rattle.ff_gc.proofs.Numbers.{block_of_place}
@@ -23,7 +23,7 @@ use Rattle.ff_gc.specs.declared.phase.Phase.TheVariants.{Idle, Programming, Read
 use Rattle.ff_store.specs.PageStore.{IsNotVictim}
 
 -- one block changes, which is no part of a collection. Another may lose a mapped page
-pub record IsAside (per block : ℕ) (table table2 : TableView) (cells cells2 : List Cell) (places places2 : MapView)
+pub record IsAside (per block : ℕ) (table table2 : BlockTableView) (cells cells2 : List Cell) (places places2 : PageMapView)
     : Type 0 where
   pub some : 0 < per
   pub size : length table2.blocks ≡ length table.blocks
@@ -41,7 +41,7 @@ pub record IsAside (per block : ℕ) (table table2 : TableView) (cells cells2 : 
       → mapping_of places page ≡ Some m
 
 -- states of the other blocks
-state_aside : (per block : ℕ) (table table2 : TableView) (cells cells2 : List Cell) (places places2 : MapView)
+state_aside : (per block : ℕ) (table table2 : BlockTableView) (cells cells2 : List Cell) (places places2 : PageMapView)
     (state : BlockState) → IsAside per block table table2 cells cells2 places places2
     → (b : ℕ) → b ≢ block → IsInState table.blocks state b → IsInState table2.blocks state b
 state_aside per block table table2 cells cells2 places places2 state a b apart is = record {
@@ -49,7 +49,7 @@ state_aside per block table table2 cells cells2 places places2 state a b apart i
   state = a.state b apart ∙ is.state;
 }
 
-state_back : (per block : ℕ) (table table2 : TableView) (cells cells2 : List Cell) (places places2 : MapView)
+state_back : (per block : ℕ) (table table2 : BlockTableView) (cells cells2 : List Cell) (places places2 : PageMapView)
     (state : BlockState) → IsAside per block table table2 cells cells2 places places2
     → (b : ℕ) → b ≢ block → IsInState table2.blocks state b → IsInState table.blocks state b
 state_back per block table table2 cells cells2 places places2 state a b apart is = record {
@@ -57,7 +57,7 @@ state_back per block table table2 cells cells2 places places2 state a b apart is
   state = sym (a.state b apart) ∙ is.state;
 }
 
-none_aside : (per block : ℕ) (table table2 : TableView) (cells cells2 : List Cell) (places places2 : MapView)
+none_aside : (per block : ℕ) (table table2 : BlockTableView) (cells cells2 : List Cell) (places places2 : PageMapView)
     (state : BlockState) → IsAside per block table table2 cells cells2 places places2
     → (block_at table2 block).state ≢ state → NoBlock (IsInState table.blocks state)
     → NoBlock (IsInState table2.blocks state)
@@ -66,7 +66,7 @@ none_aside per block table table2 cells cells2 places places2 state a other none
   | inr apart ↦ none b (state_back per block table table2 cells cells2 places places2 state a b apart is)
 ]
 
-only_aside : (per block : ℕ) (table table2 : TableView) (cells cells2 : List Cell) (places places2 : MapView)
+only_aside : (per block : ℕ) (table table2 : BlockTableView) (cells cells2 : List Cell) (places places2 : PageMapView)
     (state : BlockState) (one : ℕ) → IsAside per block table table2 cells cells2 places places2
     → one ≢ block → (block_at table2 block).state ≢ state → IsOnlyBlock table state one → IsOnlyBlock table2 state one
 only_aside per block table table2 cells cells2 places places2 state one a apart other only = record {
@@ -77,7 +77,7 @@ only_aside per block table table2 cells cells2 places places2 state one a apart 
   ];
 }
 
-copying_aside : (per block : ℕ) (table table2 : TableView) (cells cells2 : List Cell) (places places2 : MapView)
+copying_aside : (per block : ℕ) (table table2 : BlockTableView) (cells cells2 : List Cell) (places places2 : PageMapView)
     (moves : List Move) (job : Job) → IsAside per block table table2 cells cells2 places places2
     → job.victim.0 ≢ block → IsCopying per moves cells table places job
     → IsCopying per moves cells2 table2 places2 job
@@ -118,7 +118,7 @@ copying_aside per block table table2 cells cells2 places places2 moves job a vic
     }
 
 -- the stale page isn't mapped in the other map
-unmapped_aside : (per block : ℕ) (table table2 : TableView) (cells cells2 : List Cell) (places places2 : MapView)
+unmapped_aside : (per block : ℕ) (table table2 : BlockTableView) (cells cells2 : List Cell) (places places2 : PageMapView)
     (victim place : ℕ) → IsAside per block table table2 cells cells2 places places2 → victim ≢ block → place < per
     → ((page : PageNo) (m : Mapping) → mapping_of places page ≡ Some m → m.at.0 ≢ victim * per + place)
     → (page : PageNo) (m : Mapping) → mapping_of places2 page ≡ Some m → m.at.0 ≢ victim * per + place
@@ -126,7 +126,7 @@ unmapped_aside per block table table2 cells cells2 places places2 victim place a
     let lies : m.at.0 / per ≡ victim = ap (λ n. n / per) same ∙ block_of_place per victim place small in
     none page m (a.mapped page m is (λ there. apart (sym lies ∙ there))) same
 
-stale_aside : (per block : ℕ) (table table2 : TableView) (cells cells2 : List Cell) (places places2 : MapView)
+stale_aside : (per block : ℕ) (table table2 : BlockTableView) (cells cells2 : List Cell) (places places2 : PageMapView)
     (moves : List Move) (job : Job) → IsAside per block table table2 cells cells2 places places2
     → job.victim.0 ≢ block → HasStale per moves places job → HasStale per moves places2 job
 stale_aside per block table table2 cells cells2 places places2 moves job a apart s = record {
@@ -137,7 +137,7 @@ stale_aside per block table table2 cells cells2 places places2 moves job a apart
   fewer = s.fewer;
 }
 
-programming_aside : (per block : ℕ) (table table2 : TableView) (cells cells2 : List Cell) (places places2 : MapView)
+programming_aside : (per block : ℕ) (table table2 : BlockTableView) (cells cells2 : List Cell) (places places2 : PageMapView)
     (moves : List Move) (bytes : List ℕ) (job : Job) (original : Original)
     → IsAside per block table table2 cells cells2 places places2 → job.victim.0 ≢ block
     → IsProgramming per moves bytes cells table places job original
@@ -164,7 +164,7 @@ programming_aside per block table table2 cells cells2 places places2 moves bytes
   };
 }
 
-emptying_aside : (per block : ℕ) (table table2 : TableView) (cells cells2 : List Cell) (places places2 : MapView)
+emptying_aside : (per block : ℕ) (table table2 : BlockTableView) (cells cells2 : List Cell) (places places2 : PageMapView)
     (one : Block) → IsAside per block table table2 cells cells2 places places2 → IsEmptying table one
     → IsEmptying table2 one
 emptying_aside per block table table2 cells cells2 places places2 one a e =
@@ -179,8 +179,8 @@ emptying_aside per block table table2 cells cells2 places places2 one a e =
     }
 
 -- what holds in the collector's phase goes on to hold
-pub at_aside : (gc : CollectorView) (block : ℕ) (table table2 : TableView) (cells cells2 : List Cell)
-    (places places2 : MapView) (phase : Phase)
+pub at_aside : (gc : CollectorView) (block : ℕ) (table table2 : BlockTableView) (cells cells2 : List Cell)
+    (places places2 : PageMapView) (phase : Phase)
     → IsAside gc.per_block block table table2 cells cells2 places places2 → IsNotVictim phase block
     → (phase ≡ Idle → HasBlock table2 Erased) → IsAt gc cells table places phase → IsAt gc cells2 table2 places2 phase
 at_aside gc block table table2 cells cells2 places places2 Idle a apart spare at = record {
@@ -223,7 +223,7 @@ at_aside gc block table table2 cells cells2 places places2 (Aborting one) a apar
     emptying_aside gc.per_block block table table2 cells cells2 places places2 one a at
 
 -- a block that isn't full is no victim
-pub not_victim : (gc : CollectorView) (table : TableView) (cells : List Cell) (places : MapView) (phase : Phase)
+pub not_victim : (gc : CollectorView) (table : BlockTableView) (cells : List Cell) (places : PageMapView) (phase : Phase)
     (block : ℕ) → (block_at table block).state ≢ Full → IsAt gc cells table places phase → IsNotVictim phase block
 not_victim gc table cells places Idle block other at = tt
 not_victim gc table cells places (Reading job) block other at = λ same.

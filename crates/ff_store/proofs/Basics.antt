@@ -8,7 +8,7 @@ use Rattle.ff_flash.specs.Cells.{Cell, ReadsBytes, cell_at}
 use Rattle.ff_flash.specs.FlashState.{FlashState, Operates, powered_off}
 use Rattle.ff_flash.specs.Injected.{stop_of}
 use Rattle.ff_flash.specs.declared.flash.FlashStop.{FlashStop}
-use Rattle.ff_space.specs.BlockTable.{IsTableSound}
+use Rattle.ff_space.specs.BlockTable.{IsBlockTableSound}
 use Rattle.ff_map.specs.declared.places.Mapping.{Mapping}
 use Rattle.ff_gc.proofs.Counting.{count_alike}
 use Rattle.ff_gc.proofs.Stepping.{steps_kept}
@@ -137,7 +137,7 @@ collected_sound s new owed step sound on none keeps r =
 
 -- what a step of the collector leaves of the sizes, the pages and the counts
 pub collected_call : (s new : PageStoreView) (owed : Bool) (step : Result GcStep FlashStop) → IsStoreSound s
-    → s.world.flash.on ≡ true → IsTableSound s.world.table → Collects owed s step new → IsCall s (stop_of step) new
+    → s.world.flash.on ≡ true → IsBlockTableSound s.world.table → Collects owed s step new → IsCall s (stop_of step) new
 collected_call s new owed step sound on table r =
     let keeps = steps_kept s.world new.world step table (ready_in s sound on) r.world in
     let takes = takes_of s.world new.world step r.world in
@@ -155,7 +155,7 @@ collected_call s new owed step sound on table r =
     }
 
 pub collected_same : (s new : PageStoreView) (owed : Bool) (step : Result GcStep FlashStop) → IsStoreSound s
-    → s.world.flash.on ≡ true → IsTableSound s.world.table → Collects owed s step new → SameBytes s new
+    → s.world.flash.on ≡ true → IsBlockTableSound s.world.table → Collects owed s step new → SameBytes s new
 collected_same s new owed step sound on table r =
     let keeps = steps_kept s.world new.world step table (ready_in s sound on) r.world in
     record { bytes = keeps.same.bytes; versions = keeps.same.versions }

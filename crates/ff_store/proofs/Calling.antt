@@ -12,10 +12,10 @@ use Rattle.ff_flash.specs.declared.flash.FlashStop.{FlashStop}
 use Rattle.ff_flash.specs.declared.flash.FlashStop.TheVariants.{Failed, Off}
 use Rattle.ff_space.proofs.Changed.{length-changed_at}
 use Rattle.ff_space.specs.Blocks.{advanced}
-use Rattle.ff_space.specs.BlockTable.{IsTableSound, TableView}
+use Rattle.ff_space.specs.BlockTable.{IsBlockTableSound, BlockTableView}
 use Rattle.ff_space.specs.Choices.{IsAllMapped, IsNoPlace}
 use Rattle.ff_map.proofs.Lookups.{mapped_at, mapping_of-with_mapping, mapping_of-with_mapping_other}
-use Rattle.ff_map.specs.PageMap.{MapView, mapping_of, place_of, version_of}
+use Rattle.ff_map.specs.PageMap.{PageMapView, mapping_of, place_of, version_of}
 use Rattle.ff_map.specs.declared.places.Mapping.{Mapping}
 use Rattle.ff_gc.proofs.Retaining.{bytes_retained, cell_at-set, mapped_apart, retains_programmed}
 use Rattle.ff_gc.proofs.Stepping.{steps_kept}
@@ -64,7 +64,7 @@ fetched_call s new at before after result r = record {
   takes = made Read r.operation;
 }
 
-flushed_size : (table : TableView) (block : ℕ) (result : Result FlushStep FlashStop)
+flushed_size : (table : BlockTableView) (block : ℕ) (result : Result FlushStep FlashStop)
     → length (table_after_flush table block result).blocks ≡ length table.blocks
 flushed_size table block (Ok step) = length-changed_at table block (λ entry. advanced table.per_block (opened_block entry))
 flushed_size table block (Err Failed) = length-changed_at table block (λ entry. advanced table.per_block (opened_block entry))
@@ -87,7 +87,7 @@ programmed_call s new page bytes result r = record {
 
 -- a program changes no page's bytes
 pub programmed_same : (s new : PageStoreView) (page : PageNo) (bytes : List ℕ) (result : Result FlushStep FlashStop)
-    → IsStoreSound s → s.world.flash.on ≡ true → IsTableSound s.world.table → ProgramsPage s page bytes result new
+    → IsStoreSound s → s.world.flash.on ≡ true → IsBlockTableSound s.world.table → ProgramsPage s page bytes result new
     → SameBytes s new
 programmed_same s new page bytes result sound on table r =
     let ready = ready_in s sound on in
@@ -102,7 +102,7 @@ programmed_same s new page bytes result sound on table r =
     }
 
 pub programmed_is : (s new : PageStoreView) (page : PageNo) (bytes : List ℕ) (result : Result FlushStep FlashStop)
-    → IsStoreSound s → s.world.flash.on ≡ true → IsTableSound s.world.table → ProgramsPage s page bytes result new
+    → IsStoreSound s → s.world.flash.on ≡ true → IsBlockTableSound s.world.table → ProgramsPage s page bytes result new
     → ◌≡◌ {A = Result FlushStep FlashStop} result (Ok Programmed) → IsProgrammed new page bytes
 programmed_is s new page bytes (Ok step) sound on table r is =
     let ready = ready_in s sound on in
@@ -183,13 +183,13 @@ placed_is s new p step sound on r =
       page_is = refl;
       places = places;
       bytes =
-          ap (λ (q : MapView). mapped_bytes new.world.flash.cells (mapping_of q p.page)) places
+          ap (λ (q : PageMapView). mapped_bytes new.world.flash.cells (mapping_of q p.page)) places
           ∙ ap (λ (o : Option Mapping). mapped_bytes new.world.flash.cells o) own
           ∙ ap (λ (c : List Cell). cell_bytes (cell_at c p.at.0)) now
           ∙ ap cell_bytes cell
           ∙ sym (ap cell_bytes w.cell);
       others = λ other apart.
-          ap (λ (q : MapView). mapped_bytes new.world.flash.cells (mapping_of q other)) places
+          ap (λ (q : PageMapView). mapped_bytes new.world.flash.cells (mapping_of q other)) places
           ∙ ap (λ (o : Option Mapping). mapped_bytes new.world.flash.cells o)
           (mapping_of-with_mapping_other s.world.places p.page (new_mapping p) other apart)
           ∙ other_bytes s new p (Ok step) sound on r other (mapping_of s.world.places other) refl;
@@ -232,7 +232,7 @@ why_collects s sound (inl owed) = inl (sound.owed owed)
 why_collects s sound (inr nowhere) = inr nowhere
 
 -- a flush that collects has a block to collect
-pub not_idle : (s : PageStoreView) (new : World) → IsStoreSound s → s.world.flash.on ≡ true → IsTableSound s.world.table
+pub not_idle : (s : PageStoreView) (new : World) → IsStoreSound s → s.world.flash.on ≡ true → IsBlockTableSound s.world.table
     → mapped_count s.world.places ≤ page_capacity s.world
     → (is_busy s.world.gc.phase ≡ true) ⊎ IsNoPlace s.world.table → IsStep s.world (Ok IdleStep) new → ⊥
 not_idle s new sound on table room (inl busy) step =
@@ -246,7 +246,7 @@ not_idle s new sound on table room (inr nowhere) step =
 
 -- a collection step of a flush that worked leaves fewer of them
 left_step : (s : PageStoreView) (new : World) (step : Result GcStep FlashStop) → IsStoreSound s → s.world.flash.on ≡ true
-    → IsTableSound s.world.table → mapped_count s.world.places ≤ page_capacity s.world
+    → IsBlockTableSound s.world.table → mapped_count s.world.places ≤ page_capacity s.world
     → (is_busy s.world.gc.phase ≡ true) ⊎ IsNoPlace s.world.table → IsStep s.world step new
     → ◌≡◌ {A = Result FlushStep FlashStop} (collected step) (Ok Collected) → left_of new < left_of s.world
 left_step s new (Ok step) sound on table room why r is =
@@ -258,7 +258,7 @@ left_step s new (Ok step) sound on table room why r is =
 left_step s new (Err stop) sound on table room why r is = absurd (cc)
 
 pub left_collects : (s new : PageStoreView) (result : Result FlushStep FlashStop) → IsStoreSound s
-    → s.world.flash.on ≡ true → IsTableSound s.world.table → mapped_count s.world.places ≤ page_capacity s.world
+    → s.world.flash.on ≡ true → IsBlockTableSound s.world.table → mapped_count s.world.places ≤ page_capacity s.world
     → CollectsNow s → CollectsFor s result new → ◌≡◌ {A = Result FlushStep FlashStop} result (Ok Collected)
     → left_of new.world < left_of s.world
 left_collects s new result sound on table room now r is =
@@ -269,20 +269,20 @@ stop_collected (Ok step) = refl
 stop_collected (Err stop) = refl
 
 collects_call : (s new : PageStoreView) (result : Result FlushStep FlashStop) → IsStoreSound s → s.world.flash.on ≡ true
-    → IsTableSound s.world.table → CollectsFor s result new → IsCall s (stop_of result) new
+    → IsBlockTableSound s.world.table → CollectsFor s result new → IsCall s (stop_of result) new
 collects_call s new result sound on table r =
     let stops : stop_of r.step ≡ stop_of result =
     sym (stop_collected r.step) ∙ sym (ap (λ (x : Result FlushStep FlashStop). stop_of x) r.answer) in
     subst (λ (x : Option FlashStop). IsCall s x new) stops (collected_call s new true r.step sound on table r.collects)
 
 pub flushes_call : (s new : PageStoreView) (page : PageNo) (bytes : List ℕ) (result : Result FlushStep FlashStop)
-    → IsStoreSound s → s.world.flash.on ≡ true → IsTableSound s.world.table → Flushes s page bytes result new
+    → IsStoreSound s → s.world.flash.on ≡ true → IsBlockTableSound s.world.table → Flushes s page bytes result new
     → IsCall s (stop_of result) new
 flushes_call s new page bytes result sound on table (programs_flush not_now r) = programmed_call s new page bytes result r
 flushes_call s new page bytes result sound on table (collects_flush now r) = collects_call s new result sound on table r
 
 pub flushes_same : (s new : PageStoreView) (page : PageNo) (bytes : List ℕ) (result : Result FlushStep FlashStop)
-    → IsStoreSound s → s.world.flash.on ≡ true → IsTableSound s.world.table → Flushes s page bytes result new
+    → IsStoreSound s → s.world.flash.on ≡ true → IsBlockTableSound s.world.table → Flushes s page bytes result new
     → SameBytes s new
 flushes_same s new page bytes result sound on table (programs_flush not_now r) =
     programmed_same s new page bytes result sound on table r
@@ -295,7 +295,7 @@ collected_not (Ok step) is = cc
 collected_not (Err stop) is = cc
 
 pub flushes_is : (s new : PageStoreView) (page : PageNo) (bytes : List ℕ) (result : Result FlushStep FlashStop)
-    → IsStoreSound s → s.world.flash.on ≡ true → IsTableSound s.world.table → Flushes s page bytes result new
+    → IsStoreSound s → s.world.flash.on ≡ true → IsBlockTableSound s.world.table → Flushes s page bytes result new
     → ◌≡◌ {A = Result FlushStep FlashStop} result (Ok Programmed) → IsProgrammed new page bytes
 flushes_is s new page bytes result sound on table (programs_flush not_now r) is =
     programmed_is s new page bytes result sound on table r is
@@ -321,7 +321,7 @@ programmed_not s new page bytes (Ok step) r is = (let e : step ≡ Programmed = 
 programmed_not s new page bytes (Err stop) r is = cc
 
 pub flushes_left : (s new : PageStoreView) (page : PageNo) (bytes : List ℕ) (result : Result FlushStep FlashStop)
-    → IsStoreSound s → s.world.flash.on ≡ true → IsTableSound s.world.table
+    → IsStoreSound s → s.world.flash.on ≡ true → IsBlockTableSound s.world.table
     → mapped_with s.world.places page ≤ page_capacity s.world → Flushes s page bytes result new
     → ◌≡◌ {A = Result FlushStep FlashStop} result (Ok Collected) → left_of new.world < left_of s.world
 flushes_left s new page bytes result sound on table room (programs_flush not_now r) is =

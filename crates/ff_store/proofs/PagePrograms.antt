@@ -21,11 +21,11 @@ use Rattle.ff_flash.specs.declared.flash.FlashStop.TheVariants.{Failed, Off}
 use Rattle.ff_flash.specs.declared.spare.Spare.{Spare}
 use Rattle.ff_space.proofs.Changed.{block_at-changed_at, block_at-changed_at_other, length-changed_at}
 use Rattle.ff_space.specs.Blocks.{advanced, raised_state}
-use Rattle.ff_space.specs.BlockTable.{IsTableSound, TableView, block_at, changed_at}
+use Rattle.ff_space.specs.BlockTable.{IsBlockTableSound, BlockTableView, block_at, changed_at}
 use Rattle.ff_space.specs.declared.block.BlockEntry.{BlockEntry}
 use Rattle.ff_space.specs.declared.block.BlockState.{BlockState}
 use Rattle.ff_space.specs.declared.block.BlockState.TheVariants.{Erased, Full, Held, Open, Waiting}
-use Rattle.ff_map.specs.PageMap.{MapView, drawn_map}
+use Rattle.ff_map.specs.PageMap.{PageMapView, drawn_map}
 use Rattle.ff_gc.proofs.Keeping.{not_off}
 use Rattle.ff_gc.proofs.Retaining.{retains_programmed, safe_retained}
 use Rattle.ff_gc.proofs.Tables.{KeepsPages, state_after, tabled_programmed}
@@ -59,7 +59,7 @@ raised_not per next state not_open not_full is = elim (raised_open per next) [
   | inr other ↦ not_full (sym other ∙ is)
 ]
 
-abbrev pub flushed_table : World → ℕ → TableView
+abbrev pub flushed_table : World → ℕ → BlockTableView
 flushed_table w block = changed_at w.table block (λ entry. advanced w.table.per_block (opened_block entry))
 
 flushed_keeps : (per : ℕ) (entry : BlockEntry) → entry.state ≢ Waiting → KeepsPages entry (flushed_block per entry)
@@ -149,7 +149,7 @@ flushed_safe w flash counts block at bytes spare result stop ready t m programs 
       };
     }
 
-flushed_fits : (w : World) (flash : FlashState) (counts : Counts) (table : TableView) (stop : Option FlashStop) → Fits w
+flushed_fits : (w : World) (flash : FlashState) (counts : Counts) (table : BlockTableView) (stop : Option FlashStop) → Fits w
     → Operates w.flash stop flash → length flash.cells ≡ length w.flash.cells
     → length table.blocks ≡ length w.table.blocks → table.per_block ≡ w.table.per_block
     → Fits (record w { flash = flash; counts = counts; table = table; places = drawn_map w.places })
@@ -219,7 +219,7 @@ flushed_pending s flash counts page bytes block at ready t size programs =
     }
 
 pub flushed_ok : (s : PageStoreView) (flash : FlashState) (counts : Counts) (page : PageNo) (bytes : List ℕ) (block : ℕ)
-    (at : Ppn) → IsStoreSound s → s.world.flash.on ≡ true → IsTableSound s.world.table
+    (at : Ppn) → IsStoreSound s → s.world.flash.on ≡ true → IsBlockTableSound s.world.table
     → page.0 < length s.world.places.pages → mapped_with s.world.places page ≤ page_capacity s.world
     → length bytes ≡ PAGE_BYTES → IsWritePlace s.world.table block at.0
     → Makes Program s.world None (record s.world { flash = flash; counts = counts })
@@ -267,11 +267,11 @@ flushed_ok s flash counts page bytes block at sound on table in_range room size 
       counted = counted_after s (record w { flash = flash; counts = counts }) Program None sound on m;
     }
 
-with_count : (places : MapView) (page : PageNo) → mapped_count places ≤ mapped_with places page
+with_count : (places : PageMapView) (page : PageNo) → mapped_count places ≤ mapped_with places page
 with_count places page = omega arith
 
 pub flushed_failed : (s : PageStoreView) (flash : FlashState) (counts : Counts) (page : PageNo) (bytes : List ℕ) (block : ℕ)
-    (at : Ppn) → IsStoreSound s → s.world.flash.on ≡ true → s.waits ≡ None → IsTableSound s.world.table
+    (at : Ppn) → IsStoreSound s → s.world.flash.on ≡ true → s.waits ≡ None → IsBlockTableSound s.world.table
     → mapped_with s.world.places page ≤ page_capacity s.world → IsWritePlace s.world.table block at.0
     → Makes Program s.world (Some Failed) (record s.world { flash = flash; counts = counts })
     → Programs s.world.flash.cells at.0 bytes (spare_of (pending_at page at s.world.places)) (Err Failed) flash.cells
@@ -305,7 +305,7 @@ flushed_failed s flash counts page bytes block at sound on none table room place
     }
 
 pub flushed_off : (s : PageStoreView) (flash : FlashState) (counts : Counts) (page : PageNo) (bytes : List ℕ) (block : ℕ)
-    (at : Ppn) → IsStoreSound s → s.world.flash.on ≡ true → s.waits ≡ None → IsTableSound s.world.table
+    (at : Ppn) → IsStoreSound s → s.world.flash.on ≡ true → s.waits ≡ None → IsBlockTableSound s.world.table
     → mapped_with s.world.places page ≤ page_capacity s.world → IsWritePlace s.world.table block at.0
     → Makes Program s.world (Some Off) (record s.world { flash = flash; counts = counts })
     → Programs s.world.flash.cells at.0 bytes (spare_of (pending_at page at s.world.places)) (Err Off) flash.cells

@@ -6,12 +6,12 @@ use Rattle.std.proofs.Math.Nat.{mul_comm}
 use Rattle.std.proofs.lemmas.Bool.{cases_Bool, cases_eq, cases_lt, eq-eqb, le-ltb, lt-ltb, ne_eqb}
 use Rattle.std.proofs.lemmas.List.{get_or-set_other, length-set}
 use Rattle.ff_space.specs.Blocks.{erased_block, is_erased, waiting}
-use Rattle.ff_space.specs.BlockTable.{IsInState, TableView, block_at, erased_count}
+use Rattle.ff_space.specs.BlockTable.{IsInState, BlockTableView, block_at, erased_count}
 use Rattle.ff_space.specs.Choices.{IsAllMapped, IsNoPlace}
 use Rattle.ff_space.specs.declared.block.BlockEntry.{BlockEntry}
 use Rattle.ff_space.specs.declared.block.BlockState.{BlockState}
 use Rattle.ff_space.specs.declared.block.BlockState.TheVariants.{Erased, Full, Held, Open, Waiting}
-use Rattle.ff_map.specs.PageMap.{MapView}
+use Rattle.ff_map.specs.PageMap.{PageMapView}
 use Rattle.ff_map.specs.declared.places.Mapping.{Mapping}
 use Rattle.ff_gc.proofs.Counting.{count_cons, count_set, count_some}
 use Rattle.ff_gc.specs.Running.{IsCollectorIdle}
@@ -94,7 +94,7 @@ full_or_erased Held not_open not_held not_waiting = absurd (not_held refl)
 full_or_erased Waiting not_open not_held not_waiting = absurd (not_waiting refl)
 
 -- two erased blocks are counted
-both_erased : (table : TableView) (one other : ℕ) → IsInState table.blocks Erased one
+both_erased : (table : BlockTableView) (one other : ℕ) → IsInState table.blocks Erased one
     → IsInState table.blocks Erased other → other ≢ one → 2 ≤ erased_count table.blocks
 both_erased table one other is also apart =
     let out : BlockEntry = waiting erased_block in
@@ -123,7 +123,7 @@ times_least (suc k) per some = let next = next_times k per in omega arith
 times_least zero per some = absurd (omega arith)
 
 -- all blocks but the erased one have all their pages mapped
-all_counted : (per : ℕ) (table : TableView) (erased_one k : ℕ) → k ≤ length table.blocks
+all_counted : (per : ℕ) (table : BlockTableView) (erased_one k : ℕ) → k ≤ length table.blocks
     → ((b : ℕ) → b < length table.blocks → b ≢ erased_one → (block_at table b).mapped ≡ per)
     → k * per ≤ sum_to (λ b. (block_at table b).mapped) k + cond (ltb erased_one k) per 0
 all_counted per table erased_one zero most whole = omega arith
@@ -151,7 +151,7 @@ all_counted per table erased_one (suc k) most whole =
     ]
 
 -- a block can be collected
-pub has_victim : (per : ℕ) (table : TableView) (places : MapView) → table.per_block ≡ per → 0 < per
+pub has_victim : (per : ℕ) (table : BlockTableView) (places : PageMapView) → table.per_block ≡ per → 0 < per
     → 2 ≤ length table.blocks
     → ((b : ℕ) → b < length table.blocks → (block_at table b).mapped ≡ mapped_in per places b) → IsCollectorIdle table
     → count_by (λ m. is_some m) places.pages ≤ (length table.blocks - 1) * per - 1 → IsNoPlace table → IsAllMapped table → ⊥

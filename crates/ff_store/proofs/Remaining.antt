@@ -3,7 +3,7 @@ use Rattle.std.proofs.Common.{◌≡◌, ◌≢◌, ◌<◌, ◌≤◌, ◌+◌,
 use Rattle.std.specs.Prelude.{◌⊎◌, Ok, not, if◌then◌else◌}
 use Rattle.std.proofs.lemmas.Bool.{both_ways, cases_Bool, cases_lt, eq-eqb, eqb-true, ne_eqb}
 use Rattle.ff_space.specs.Blocks.{erased_block, waiting}
-use Rattle.ff_space.specs.BlockTable.{IsTableSound, TableView, block_at}
+use Rattle.ff_space.specs.BlockTable.{IsBlockTableSound, BlockTableView, block_at}
 use Rattle.ff_space.specs.Choices.{IsNoPlace}
 use Rattle.ff_space.specs.declared.block.BlockEntry.{BlockEntry}
 use Rattle.ff_space.specs.declared.block.BlockState.{BlockState}
@@ -30,7 +30,7 @@ not_some n is = elim (cases_lt 0 n) [
   | inr none ↦ (let zero_is : eqb n 0 ≡ true = eq-eqb n 0 (omega arith) in let e : false ≡ true = rw zero_is at is in absurd (cc))
 ]
 
-ending_true : (moves : List Move) (table : TableView) (phase : Phase) → IsEndingAt moves table phase
+ending_true : (moves : List Move) (table : BlockTableView) (phase : Phase) → IsEndingAt moves table phase
     → is_ending moves table phase ≡ true
 ending_true moves table Idle ends = some_not _ ends
 ending_true moves table (Reading job) ends = eq-eqb _ _ ends
@@ -40,7 +40,7 @@ ending_true moves table (Commit job) ends = eq-eqb _ _ ends
 ending_true moves table (Erasing block) ends = some_not _ ends
 ending_true moves table (Aborting block) ends = some_not _ ends
 
-true_ending : (moves : List Move) (table : TableView) (phase : Phase) → is_ending moves table phase ≡ true
+true_ending : (moves : List Move) (table : BlockTableView) (phase : Phase) → is_ending moves table phase ≡ true
     → IsEndingAt moves table phase
 true_ending moves table Idle is = not_some _ is
 true_ending moves table (Reading job) is = eqb-true _ _ is
@@ -109,7 +109,7 @@ open_of Held is = absurd (cc)
 open_of Waiting is = absurd (cc)
 
 -- no block is open
-none_open : (table : TableView) → IsNoPlace table → open_count table.blocks ≡ 0
+none_open : (table : BlockTableView) → IsNoPlace table → open_count table.blocks ≡ 0
 none_open table nowhere = elim (cases_lt 0 (open_count table.blocks)) [
   | inl some ↦
       let p : BlockEntry → Bool = λ (e : BlockEntry). is_open e.state in
@@ -121,7 +121,7 @@ none_open table nowhere = elim (cases_lt 0 (open_count table.blocks)) [
   | inr none ↦ omega arith
 ]
 
-idle_ends_not : (table : TableView) (moves : List Move) → IsNoPlace table → is_ending moves table Idle ≡ false
+idle_ends_not : (table : BlockTableView) (moves : List Move) → IsNoPlace table → is_ending moves table Idle ≡ false
 idle_ends_not table moves nowhere = elim (cases_Bool (is_ending moves table Idle)) [
   | inl hit ↦
       let some = true_ending moves table Idle hit in
@@ -131,7 +131,7 @@ idle_ends_not table moves nowhere = elim (cases_Bool (is_ending moves table Idle
   | inr miss ↦ miss
 ]
 
-busy_falls : (old new : World) (step : GcStep) → IsTableSound old.table → IsCollectorReady old → is_busy old.gc.phase ≡ true
+busy_falls : (old new : World) (step : GcStep) → IsBlockTableSound old.table → IsCollectorReady old → is_busy old.gc.phase ≡ true
     → step ≢ IdleStep → IsStep old (Ok step) new → new.gc.per_block ≡ old.gc.per_block → left_of new < left_of old
 busy_falls old new step sound ready busy other r per =
     let fall = steps_fall old new step ready other r in
@@ -148,7 +148,7 @@ busy_falls old new step sound ready busy other r per =
       | inr miss ↦ (let before = left_other old miss in omega arith)
     ]
 
-idle_falls : (old new : World) (step : GcStep) → IsTableSound old.table → IsCollectorReady old → old.gc.phase ≡ Idle
+idle_falls : (old new : World) (step : GcStep) → IsBlockTableSound old.table → IsCollectorReady old → old.gc.phase ≡ Idle
     → IsNoPlace old.table → step ≢ IdleStep → IsStep old (Ok step) new → new.gc.per_block ≡ old.gc.per_block
     → left_of new < left_of old
 idle_falls old new step sound ready idle nowhere other r per =
@@ -165,7 +165,7 @@ idle_falls old new step sound ready idle nowhere other r per =
     omega arith
 
 -- a collection step of a flush that worked leaves fewer of them
-pub left_falls : (old new : World) (step : GcStep) → IsTableSound old.table → IsCollectorReady old
+pub left_falls : (old new : World) (step : GcStep) → IsBlockTableSound old.table → IsCollectorReady old
     → (is_busy old.gc.phase ≡ true) ⊎ IsNoPlace old.table → step ≢ IdleStep → IsStep old (Ok step) new
     → new.gc.per_block ≡ old.gc.per_block → left_of new < left_of old
 left_falls old new step sound ready why other r per = elim (cases_Bool (is_busy old.gc.phase)) [

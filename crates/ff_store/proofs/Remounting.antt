@@ -14,10 +14,10 @@ use Rattle.ff_flash.specs.FlashState.{FlashState, powered_up}
 use Rattle.ff_flash.specs.declared.flash.FlashStop.{FlashStop}
 use Rattle.ff_flash.specs.declared.flash.FlashStop.TheVariants.{Failed as FlashFailed, Off as FlashOff}
 use Rattle.ff_flash.specs.declared.spare.Spare.{Spare}
-use Rattle.ff_space.specs.BlockTable.{IsInState, TableView, block_at}
+use Rattle.ff_space.specs.BlockTable.{IsInState, BlockTableView, block_at}
 use Rattle.ff_space.specs.declared.block.BlockState.{BlockState}
 use Rattle.ff_space.specs.declared.block.BlockState.TheVariants.{Erased, Full, Held, Open, Waiting}
-use Rattle.ff_map.specs.PageMap.{MapView, mapping_of}
+use Rattle.ff_map.specs.PageMap.{PageMapView, mapping_of}
 use Rattle.ff_map.specs.declared.places.Mapping.{Mapping}
 use Rattle.ff_scan.proofs.Newest.{sealed_within}
 use Rattle.ff_scan.specs.Found.{IsFoundPage, IsNewestMapping, IsOneAbove, IsScan, found_state}
@@ -40,19 +40,19 @@ use Rattle.ff_store.specs.declared.remount.StoreStop.{StoreStop}
 use Rattle.ff_store.specs.declared.remount.StoreStop.TheVariants.{NoMemory, Failed, Off}
 
 -- a page's mapping is the newest outside the spare block
-newest : (g : Geometry) (cells : List Cell) (spare : ℕ) (table : TableView) (places : MapView) (page : PageNo) (m : Mapping)
+newest : (g : Geometry) (cells : List Cell) (spare : ℕ) (table : BlockTableView) (places : PageMapView) (page : PageNo) (m : Mapping)
     → IsScan g (probes_of cells) spare table places → mapping_of places page ≡ Some m
     → IsNewestMapping g.per_block (probes_of cells) spare page m
 newest g cells spare table places page m scan is =
     subst (λ (o : Option Mapping). IsFoundPage g.per_block (probes_of cells) spare page o) is (scan.pages page)
 
-placed : (g : Geometry) (cells : List Cell) (spare : ℕ) (table : TableView) (places : MapView) (page : PageNo) (m : Mapping)
+placed : (g : Geometry) (cells : List Cell) (spare : ℕ) (table : BlockTableView) (places : PageMapView) (page : PageNo) (m : Mapping)
     → IsScan g (probes_of cells) spare table places → mapping_of places page ≡ Some m
     → cell_at cells m.at.0 ≡ sealed (cell_bytes (cell_at cells m.at.0)) (record { page = page; version = m.version })
 placed g cells spare table places page m scan is =
     cell_sealed cells m.at.0 _ (newest g cells spare table places page m scan is).there.is
 
-newer_by : (g : Geometry) (cells : List Cell) (spare a : ℕ) (x : List ℕ) (other : Spare) (places : MapView) (o : Option Mapping)
+newer_by : (g : Geometry) (cells : List Cell) (spare a : ℕ) (x : List ℕ) (other : Spare) (places : PageMapView) (o : Option Mapping)
     → mapping_of places other.page ≡ o → IsFoundPage g.per_block (probes_of cells) spare other.page o
     → cell_at cells a ≡ sealed x other → a / g.per_block ≢ spare → HasNewer places other
 newer_by g cells spare a x other places None is none there out =
@@ -64,13 +64,13 @@ newer_by g cells spare a x other places (Some m) is found there out = record {
 }
 
 -- a sealed page outside the spare block is known to the map
-known_outside : (g : Geometry) (cells : List Cell) (spare a : ℕ) (x : List ℕ) (other : Spare) (table : TableView) (places : MapView)
+known_outside : (g : Geometry) (cells : List Cell) (spare a : ℕ) (x : List ℕ) (other : Spare) (table : BlockTableView) (places : PageMapView)
     → IsScan g (probes_of cells) spare table places → cell_at cells a ≡ sealed x other → a / g.per_block ≢ spare
     → HasNewer places other
 known_outside g cells spare a x other table places scan there out =
     newer_by g cells spare a x other places (mapping_of places other.page) refl (scan.pages other.page) there out
 
-newer_as : (places : MapView) (one other : Spare) → HasNewer places other → other.page ≡ one.page
+newer_as : (places : PageMapView) (one other : Spare) → HasNewer places other → other.page ≡ one.page
     → one.version ≤ other.version → HasNewer places one
 newer_as places one other has same most = record {
   mapping = has.mapping;
@@ -79,7 +79,7 @@ newer_as places one other has same most = record {
 }
 
 -- and so is one in the spare block, which is covered
-known_inside : (g : Geometry) (cells : List Cell) (spare a : ℕ) (x : List ℕ) (other : Spare) (table : TableView) (places : MapView)
+known_inside : (g : Geometry) (cells : List Cell) (spare a : ℕ) (x : List ℕ) (other : Spare) (table : BlockTableView) (places : PageMapView)
     → IsScan g (probes_of cells) spare table places → cell_at cells a ≡ sealed x other → a / g.per_block ≡ spare
     → HasNewer places other
 known_inside g cells spare a x other table places scan there lies =
@@ -89,14 +89,14 @@ known_inside g cells spare a x other table places scan there lies =
     (λ same. one.elsewhere (same ∙ sym lies)))
     one.page one.newer
 
-known : (g : Geometry) (cells : List Cell) (spare a : ℕ) (x : List ℕ) (other : Spare) (table : TableView) (places : MapView)
+known : (g : Geometry) (cells : List Cell) (spare a : ℕ) (x : List ℕ) (other : Spare) (table : BlockTableView) (places : PageMapView)
     → IsScan g (probes_of cells) spare table places → cell_at cells a ≡ sealed x other → HasNewer places other
 known g cells spare a x other table places scan there = elim (cases_eq (a / g.per_block) spare) [
   | inl lies ↦ known_inside g cells spare a x other table places scan there lies
   | inr out ↦ known_outside g cells spare a x other table places scan there out
 ]
 
-are_mapped : (g : Geometry) (cells : List Cell) (spare : ℕ) (table : TableView) (places : MapView)
+are_mapped : (g : Geometry) (cells : List Cell) (spare : ℕ) (table : BlockTableView) (places : PageMapView)
     → IsScan g (probes_of cells) spare table places → AreMapped None cells places
 are_mapped g cells spare table places scan = record {
   placed = λ page m is. placed g cells spare table places page m scan is;
@@ -113,7 +113,7 @@ drawn_by g flash next sealed_cells one =
     let above = one.above in
     omega arith
 
-drawn : (g : Geometry) (flash : FlashState) (spare : ℕ) (table : TableView) (places : MapView)
+drawn : (g : Geometry) (flash : FlashState) (spare : ℕ) (table : BlockTableView) (places : PageMapView)
     → AreSealed g.pages flash.operations flash.cells → IsScan g (probes_of flash.cells) spare table places
     → places.next_version ≤ flash.operations + 1
 drawn g flash spare table places sealed_cells scan = elim (cases_lt 1 places.next_version) [
@@ -132,7 +132,7 @@ mapped_some None P has then = absurd (cc)
 mapped_some (Some m) P has then = then m refl
 
 -- no more pages are mapped than are sealed
-few_mapped : (g : Geometry) (cells : List Cell) (spare : ℕ) (table : TableView) (places : MapView)
+few_mapped : (g : Geometry) (cells : List Cell) (spare : ℕ) (table : BlockTableView) (places : PageMapView)
     → IsScan g (probes_of cells) spare table places → mapped_count places ≤ sealed_count g.pages cells
 few_mapped g cells spare table places scan =
     let sizes : length (range_with_len 0 g.pages) ≡ g.pages = length-range_with_len 0 g.pages in
@@ -174,7 +174,7 @@ found_waits per next false waits = elim (cases_Bool (eqb next 0)) [
   ]
 ]
 
-none_held : (g : Geometry) (cells : List Cell) (spare : ℕ) (table : TableView) (places : MapView)
+none_held : (g : Geometry) (cells : List Cell) (spare : ℕ) (table : BlockTableView) (places : PageMapView)
     → IsScan g (probes_of cells) spare table places → (block : ℕ) → IsInState table.blocks Held block → ⊥
 none_held g cells spare table places scan block is =
     let count = scan.block_count in
@@ -182,7 +182,7 @@ none_held g cells spare table places scan block is =
     let found = scan.blocks block (omega arith) in
     found_held g.per_block (block_at table block).next (eqb spare block) (sym found.state ∙ is.state)
 
-only_spare : (g : Geometry) (cells : List Cell) (spare : ℕ) (table : TableView) (places : MapView)
+only_spare : (g : Geometry) (cells : List Cell) (spare : ℕ) (table : BlockTableView) (places : PageMapView)
     → IsScan g (probes_of cells) spare table places → (block : ℕ) → IsInState table.blocks Waiting block → block ≡ spare
 only_spare g cells spare table places scan block is =
     let count = scan.block_count in
@@ -191,14 +191,14 @@ only_spare g cells spare table places scan block is =
     sym (eqb-true spare block
     (found_waits g.per_block (block_at table block).next (eqb spare block) (sym found.state ∙ is.state)))
 
-spare_state : (g : Geometry) (cells : List Cell) (spare : ℕ) (table : TableView) (places : MapView)
+spare_state : (g : Geometry) (cells : List Cell) (spare : ℕ) (table : BlockTableView) (places : PageMapView)
     → IsScan g (probes_of cells) spare table places
     → (block_at table spare).state ≡ found_state g.per_block true (block_at table spare).next
 spare_state g cells spare table places scan =
     (scan.blocks spare scan.spare_is.has.in_range).state
     ∙ ap (λ (b : Bool). found_state g.per_block b (block_at table spare).next) (eq-eqb spare spare refl)
 
-spare_in : (g : Geometry) (cells : List Cell) (spare : ℕ) (table : TableView) (places : MapView) (state : BlockState)
+spare_in : (g : Geometry) (cells : List Cell) (spare : ℕ) (table : BlockTableView) (places : PageMapView) (state : BlockState)
     → IsScan g (probes_of cells) spare table places → (block_at table spare).state ≡ state
     → IsInState table.blocks state spare
 spare_in g cells spare table places state scan is = record {
@@ -207,7 +207,7 @@ spare_in g cells spare table places state scan is = record {
 }
 
 -- no page is mapped in the spare block
-spare_unmapped : (g : Geometry) (cells : List Cell) (spare : ℕ) (table : TableView) (places : MapView)
+spare_unmapped : (g : Geometry) (cells : List Cell) (spare : ℕ) (table : BlockTableView) (places : PageMapView)
     → IsScan g (probes_of cells) spare table places → (block_at table spare).mapped ≡ 0
 spare_unmapped g cells spare table places scan =
     scan.mapped spare scan.spare_is.has.in_range
@@ -219,7 +219,7 @@ spare_unmapped g cells spare table places scan =
     not_in page None found = refl
     not_in page (Some m) found = ne_eqb (m.at.0 / g.per_block) spare found.there.outside
 
-tabled : (g : Geometry) (cells : List Cell) (spare : ℕ) (table : TableView) (places : MapView) → 0 < g.per_block
+tabled : (g : Geometry) (cells : List Cell) (spare : ℕ) (table : BlockTableView) (places : PageMapView) → 0 < g.per_block
     → length cells ≡ g.blocks * g.per_block → IsScan g (probes_of cells) spare table places
     → IsTabled g.per_block table cells places
 tabled g cells spare table places some size scan = record {
@@ -233,7 +233,7 @@ tabled g cells spare table places some size scan = record {
       (cell_erased cells _ (used.blank (a % g.per_block) next rest)));
 }
 
-phase_by : (g : Geometry) (gc : CollectorView) (cells : List Cell) (spare : ℕ) (table : TableView) (places : MapView)
+phase_by : (g : Geometry) (gc : CollectorView) (cells : List Cell) (spare : ℕ) (table : BlockTableView) (places : PageMapView)
     → IsScan g (probes_of cells) spare table places → (none : Bool) → eqb (block_at table spare).next 0 ≡ none
     → IsAt gc cells table places (mounted_phase (cond none None (Some (record { 0 = spare }))))
 phase_by g gc cells spare table places scan true test = record {
@@ -259,7 +259,7 @@ phase_by g gc cells spare table places scan false test = record {
 }
 
 -- the store that is made of a flash as a power loss left it
-pub remounted_sound : (g : Geometry) (flash : FlashState) (spare : ℕ) (table : TableView) (places : MapView) → IsWithinLimits g
+pub remounted_sound : (g : Geometry) (flash : FlashState) (spare : ℕ) (table : BlockTableView) (places : PageMapView) → IsWithinLimits g
     → length flash.cells ≡ g.blocks * g.per_block → IsRemountable g flash
     → IsScan g (probes_of flash.cells) spare table places → IsStoreSound (found_store flash g spare table places)
 remounted_sound g flash spare table places limits size sound scan =

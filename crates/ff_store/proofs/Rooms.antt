@@ -8,7 +8,7 @@ use Rattle.ff_base.specs.Geometry.{capacity_of}
 use Rattle.ff_base.specs.declared.geometry.Geometry.{Geometry}
 use Rattle.ff_base.specs.declared.numbers.PageNo.{PageNo}
 use Rattle.ff_flash.specs.declared.flash.FlashStop.{FlashStop}
-use Rattle.ff_map.specs.PageMap.{MapView}
+use Rattle.ff_map.specs.PageMap.{PageMapView}
 use Rattle.ff_map.specs.declared.places.Mapping.{Mapping}
 use Rattle.ff_gc.specs.World.{World}
 use Rattle.ff_store.proofs.Settling.{mapped_count_with}
@@ -19,7 +19,7 @@ use Rattle.ff_store.specs.Remounted.{IsOfGeometry}
 use Rattle.ff_store.specs.declared.pending.Pending.{Pending}
 
 -- no more pages are mapped than there are
-pub mapped_most : (places : MapView) (page : PageNo) → page.0 < length places.pages
+pub mapped_most : (places : PageMapView) (page : PageNo) → page.0 < length places.pages
     → mapped_with places page ≤ length places.pages
 mapped_most places page within =
     let m : Mapping = record { at = record { 0 = 0 }; version = 0 } in

@@ -11,10 +11,10 @@ use Rattle.ff_flash.specs.Cells.{Cell, Seals, cell_at, sealed}
 use Rattle.ff_flash.specs.FlashState.{FlashState}
 use Rattle.ff_flash.specs.declared.flash.FlashStop.TheVariants.{Failed, Off}
 use Rattle.ff_flash.specs.declared.spare.Spare.{Spare}
-use Rattle.ff_space.specs.BlockTable.{TableView, block_at}
+use Rattle.ff_space.specs.BlockTable.{BlockTableView, block_at}
 use Rattle.ff_space.specs.declared.block.BlockState.TheVariants.{Held, Waiting}
 use Rattle.ff_map.proofs.Lookups.{mapping_of-with_mapping, mapping_of-with_mapping_other}
-use Rattle.ff_map.specs.PageMap.{MapView, mapping_of, with_mapping}
+use Rattle.ff_map.specs.PageMap.{PageMapView, mapping_of, with_mapping}
 use Rattle.ff_map.specs.declared.places.Mapping.{Mapping}
 use Rattle.ff_gc.proofs.Keeping.{not_off}
 use Rattle.ff_gc.proofs.PageCopies.{same_page}
@@ -50,11 +50,11 @@ old_counted s p sound on m is =
     let counted = (sound.running on).live.tabled.counted (m.at.0 / s.world.gc.per_block) within in
     omega arith
 
-abbrev pub settled_table : PageStoreView → Pending → TableView
+abbrev pub settled_table : PageStoreView → Pending → BlockTableView
 settled_table s p =
     placed_table s.world.gc.per_block s.world.table (mapping_of s.world.places p.page) (p.at.0 / s.world.gc.per_block)
 
-abbrev pub settled_map : PageStoreView → Pending → MapView
+abbrev pub settled_map : PageStoreView → Pending → PageMapView
 settled_map s p = with_mapping s.world.places p.page (new_mapping p)
 
 -- the mappings in other blocks were there before

@@ -9,12 +9,12 @@ use Rattle.ff_flash.specs.Cells.{Cell, cell_at, cell_bytes, closed, sealed}
 use Rattle.ff_flash.specs.declared.spare.Spare.{Spare}
 use Rattle.ff_space.proofs.Changed.{block_at-changed_at, block_at-changed_at_other, length-changed_at}
 use Rattle.ff_space.specs.Blocks.{mapped_less, mapped_more}
-use Rattle.ff_space.specs.BlockTable.{TableView, block_at, changed_at}
+use Rattle.ff_space.specs.BlockTable.{BlockTableView, block_at, changed_at}
 use Rattle.ff_space.specs.declared.block.BlockEntry.{BlockEntry}
 use Rattle.ff_space.specs.declared.block.BlockState.{BlockState}
 use Rattle.ff_space.specs.declared.block.BlockState.TheVariants.{Full, Open}
 use Rattle.ff_map.proofs.Lookups.{mapping_of-with_mapping, mapping_of-with_mapping_other, mapped_page_within}
-use Rattle.ff_map.specs.PageMap.{MapView, mapping_of, with_mapping}
+use Rattle.ff_map.specs.PageMap.{PageMapView, mapping_of, with_mapping}
 use Rattle.ff_map.specs.declared.places.Mapping.{Mapping}
 use Rattle.ff_gc.proofs.Counting.{count_set, count_some}
 use Rattle.ff_gc.proofs.Numbers.{block_within}
@@ -42,7 +42,7 @@ mapped_block w page m ready is =
     let cells = ready.fits.cells in
     block_within w.gc.per_block m.at.0 (length w.table.blocks) ready.fits.some (omega arith)
 
-pub counted_there : (per : ℕ) (places : MapView) (page : PageNo) (m : Mapping) → mapping_of places page ≡ Some m
+pub counted_there : (per : ℕ) (places : PageMapView) (page : PageNo) (m : Mapping) → mapping_of places page ≡ Some m
     → 0 < mapped_in per places (m.at.0 / per)
 counted_there per places page m is =
     let within = mapped_page_within places page m is in
@@ -50,13 +50,13 @@ counted_there per places page m is =
     (ap (λ (x : Option Mapping). is_in per (m.at.0 / per) x) is ∙ eq-eqb (m.at.0 / per) (m.at.0 / per) refl)
 
 -- only counts change in the table after a page was mapped anew
-pub record IsCounted (table table2 : TableView) : Type 0 where
+pub record IsCounted (table table2 : BlockTableView) : Type 0 where
   pub size : length table2.blocks ≡ length table.blocks
   pub per : table2.per_block ≡ table.per_block
   pub state : (b : ℕ) → (block_at table2 b).state ≡ (block_at table b).state
   pub next : (b : ℕ) → (block_at table2 b).next ≡ (block_at table b).next
 
-counted_one : (table : TableView) (block : ℕ) (change : BlockEntry → BlockEntry) → block < length table.blocks
+counted_one : (table : BlockTableView) (block : ℕ) (change : BlockEntry → BlockEntry) → block < length table.blocks
     → (change (block_at table block)).state ≡ (block_at table block).state
     → (change (block_at table block)).next ≡ (block_at table block).next → IsCounted table (changed_at table block change)
 counted_one table block change within state next = record {
@@ -80,14 +80,14 @@ counted_one table block change within state next = record {
   ];
 }
 
-pub dropped_counted : (per : ℕ) (table : TableView) (o : Option Mapping)
+pub dropped_counted : (per : ℕ) (table : BlockTableView) (o : Option Mapping)
     → ((m : Mapping) → o ≡ Some m → m.at.0 / per < length table.blocks) → IsCounted table (dropped per table o)
 dropped_counted per table None within =
     record { size = refl; per = refl; state = λ b. refl; next = λ b. refl }
 dropped_counted per table (Some m) within =
     counted_one table (m.at.0 / per) mapped_less (within m refl) refl refl
 
-pub placed_counted : (per : ℕ) (table : TableView) (o : Option Mapping) (block : ℕ)
+pub placed_counted : (per : ℕ) (table : BlockTableView) (o : Option Mapping) (block : ℕ)
     → ((m : Mapping) → o ≡ Some m → m.at.0 / per < length table.blocks) → block < length table.blocks
     → IsCounted table (placed_table per table o block)
 placed_counted per table o block within lies =
@@ -105,7 +105,7 @@ abbrev pub one_if : Bool → ℕ
 one_if b = cond b 1 0
 
 -- how many pages of a block are mapped after the old mapping is counted no more
-dropped_mapped : (per : ℕ) (table : TableView) (o : Option Mapping) (b : ℕ)
+dropped_mapped : (per : ℕ) (table : BlockTableView) (o : Option Mapping) (b : ℕ)
     → ((m : Mapping) → o ≡ Some m → m.at.0 / per < length table.blocks)
     → ((m : Mapping) → o ≡ Some m → 0 < (block_at table (m.at.0 / per)).mapped)
     → (block_at (dropped per table o) b).mapped + one_if (is_in per b o) ≡ (block_at table b).mapped
@@ -129,7 +129,7 @@ dropped_mapped per table (Some m) b within some = elim (cases_eq (m.at.0 / per) 
       omega arith
 ]
 
-pub placed_mapped : (per : ℕ) (table : TableView) (o : Option Mapping) (block b : ℕ)
+pub placed_mapped : (per : ℕ) (table : BlockTableView) (o : Option Mapping) (block b : ℕ)
     → ((m : Mapping) → o ≡ Some m → m.at.0 / per < length table.blocks)
     → ((m : Mapping) → o ≡ Some m → 0 < (block_at table (m.at.0 / per)).mapped) → block < length table.blocks
     → (block_at (placed_table per table o block) b).mapped + one_if (is_in per b o)
@@ -154,14 +154,14 @@ placed_mapped per table o block b within some lies =
     ]
 
 -- how many are mapped in a block after a page was mapped anew
-pub mapped_in_with : (per : ℕ) (places : MapView) (page : PageNo) (m : Mapping) (b : ℕ) → page.0 < length places.pages
+pub mapped_in_with : (per : ℕ) (places : PageMapView) (page : PageNo) (m : Mapping) (b : ℕ) → page.0 < length places.pages
     → mapped_in per (with_mapping places page m) b + one_if (is_in per b (mapping_of places page))
     ≡ mapped_in per places b + one_if (eqb (m.at.0 / per) b)
 mapped_in_with per places page m b within =
     count_set (λ (x : Option Mapping). is_in per b x) places.pages page.0 (Some m) None within
 
 -- how many are mapped at all
-pub mapped_count_with : (places : MapView) (page : PageNo) (m : Mapping) → page.0 < length places.pages
+pub mapped_count_with : (places : PageMapView) (page : PageNo) (m : Mapping) → page.0 < length places.pages
     → mapped_count (with_mapping places page m) ≡ mapped_with places page
 mapped_count_with places page m within =
     let change = count_set (λ (x : Option Mapping). is_some x) places.pages page.0 (Some m) None within in

@@ -5,11 +5,11 @@ use Rattle.std.proofs.lemmas.Bool.{both_ways, cases_Bool}
 use Rattle.std.proofs.lemmas.List.{get_or-set_other, get_or-set_same, length-set}
 use Rattle.ff_flash.specs.Cells.{Cell, cell_at, erased}
 use Rattle.ff_space.specs.Blocks.{StateFits, erased_block, is_erased, waiting}
-use Rattle.ff_space.specs.BlockTable.{IsInState, IsTableSound, TableView, block_at, erased_count}
+use Rattle.ff_space.specs.BlockTable.{IsInState, IsBlockTableSound, BlockTableView, block_at, erased_count}
 use Rattle.ff_space.specs.declared.block.BlockEntry.{BlockEntry}
 use Rattle.ff_space.specs.declared.block.BlockState.{BlockState}
 use Rattle.ff_space.specs.declared.block.BlockState.TheVariants.{Erased, Full, Held, Open, Waiting}
-use Rattle.ff_map.specs.PageMap.{MapView}
+use Rattle.ff_map.specs.PageMap.{PageMapView}
 use Rattle.ff_gc.proofs.Begun.{erased_next}
 use Rattle.ff_gc.proofs.Counting.{count_miss, count_set}
 use Rattle.ff_gc.proofs.Emptied.{no_page_of}
@@ -46,12 +46,12 @@ erased_of Held is = cc
 erased_of Waiting is = cc
 
 -- another erased block
-pub record HasOtherErased (table : TableView) (block : ℕ) : Type 0 where
+pub record HasOtherErased (table : BlockTableView) (block : ℕ) : Type 0 where
   pub other : ℕ
   pub is : IsInState table.blocks Erased other
   pub apart : other ≢ block
 
-two_erased : (table : TableView) (block : ℕ) → block < length table.blocks → 2 ≤ erased_count table.blocks
+two_erased : (table : BlockTableView) (block : ℕ) → block < length table.blocks → 2 ≤ erased_count table.blocks
     → HasOtherErased table block
 two_erased table block within two =
     let out : BlockEntry = waiting erased_block in
@@ -95,7 +95,7 @@ open_small : (per : ℕ) (entry : BlockEntry) → StateFits per entry.state entr
     → entry.next < per
 open_small per entry fits is = subst (λ s. StateFits per s entry.next entry.mapped) is fits
 
-pub target_of : (w : World) (block at : ℕ) → IsTableSound w.table → IsCollectorReady w → IsWritePlace w.table block at
+pub target_of : (w : World) (block at : ℕ) → IsBlockTableSound w.table → IsCollectorReady w → IsWritePlace w.table block at
     → IsTarget w block at
 target_of w block at sound ready place =
     let per = w.gc.per_block in
@@ -150,13 +150,13 @@ target_of w block at sound ready place =
     }
 
 -- a block without pages beside this one
-pub record HasFreeBeside (per : ℕ) (table : TableView) (places : MapView) (block : ℕ) : Type 0 where
+pub record HasFreeBeside (per : ℕ) (table : BlockTableView) (places : PageMapView) (block : ℕ) : Type 0 where
   pub free : ℕ
   pub in_range : free < length table.blocks
   pub unmapped : HasNoPage per places free
   pub apart : free ≢ block
 
-beside_by : (per : ℕ) (table : TableView) (cells : List Cell) (places : MapView) (block free : ℕ) (state : BlockState)
+beside_by : (per : ℕ) (table : BlockTableView) (cells : List Cell) (places : PageMapView) (block free : ℕ) (state : BlockState)
     → IsTabled per table cells places → IsInState table.blocks state free → (block_at table free).mapped ≡ 0
     → (block_at table block).state ≢ state → HasFreeBeside per table places block
 beside_by per table cells places block free state t is empty other = record {
@@ -166,8 +166,8 @@ beside_by per table cells places block free state t is empty other = record {
   apart = λ same. other (ap (λ n. (block_at table n).state) (sym same) ∙ is.state);
 }
 
-pub free_beside : (gc : CollectorView) (table : TableView) (cells : List Cell) (places : MapView) (block : ℕ) (phase : Phase)
-    → IsTableSound table → IsTabled gc.per_block table cells places → (block_at table block).state ≢ Held
+pub free_beside : (gc : CollectorView) (table : BlockTableView) (cells : List Cell) (places : PageMapView) (block : ℕ) (phase : Phase)
+    → IsBlockTableSound table → IsTabled gc.per_block table cells places → (block_at table block).state ≢ Held
     → (block_at table block).state ≢ Waiting → (phase ≡ Idle → HasOtherErased table block)
     → IsAt gc cells table places phase → HasFreeBeside gc.per_block table places block
 free_beside gc table cells places block Idle sound t not_held not_waiting other at =

@@ -29,11 +29,11 @@ use Rattle.ff_flash.specs.Injected.{stop_of}
 use Rattle.ff_flash.specs.declared.flash.FlashStop.{FlashStop}
 use Rattle.ff_flash.specs.declared.flash.FlashStop.TheVariants.{Off}
 use Rattle.ff_space.specs.Blocks.{advanced, mapped_less, mapped_more}
-use Rattle.ff_space.specs.BlockTable.{TableView, IsInState, block_at, changed_at, erased_count}
+use Rattle.ff_space.specs.BlockTable.{BlockTableView, IsInState, block_at, changed_at, erased_count}
 use Rattle.ff_space.specs.Choices.{IsAllMapped, IsBlockToTake, IsLeast, IsNoPlace}
 use Rattle.ff_space.specs.declared.block.BlockEntry.{BlockEntry}
 use Rattle.ff_space.specs.declared.block.BlockState.TheVariants.{Open}
-use Rattle.ff_map.specs.PageMap.{MapView, drawn_map, mapping_of, version_of, with_mapping}
+use Rattle.ff_map.specs.PageMap.{PageMapView, drawn_map, mapping_of, version_of, with_mapping}
 use Rattle.ff_map.specs.declared.places.Mapping.{Mapping}
 use Rattle.ff_gc.specs.Collector.{is_busy}
 use Rattle.ff_gc.specs.Steps.{IsStep, Makes, Takes, operation_of}
@@ -94,7 +94,7 @@ pub record Collects (owed : Bool) (old : PageStoreView) (step : Result GcStep Fl
   }
 
 -- the block whose write place is programmed next: the least open one, or else the least erased one, where two are
-pub record IsWritePlace (table : TableView) (block at : ℕ) : Type 0 where
+pub record IsWritePlace (table : BlockTableView) (block at : ℕ) : Type 0 where
   pub chosen : IsLeast (IsInState table.blocks Open) block ⊎ IsBlockToTake table block
   pub at_is : at ≡ block * table.per_block + (block_at table block).next
 
@@ -103,13 +103,13 @@ pub record IsWritePlace (table : TableView) (block at : ℕ) : Type 0 where
 abbrev pub opened_block : BlockEntry → BlockEntry
 opened_block entry = record entry { state = Open }
 
-abbrev pub table_after_flush : TableView → ℕ → Result FlushStep FlashStop → TableView
+abbrev pub table_after_flush : BlockTableView → ℕ → Result FlushStep FlashStop → BlockTableView
 table_after_flush table block (Err Off) = table
 table_after_flush table block _ =
     changed_at table block (λ entry. advanced table.per_block (opened_block entry))
 
 -- a flush that was programmed
-abbrev pub pending_at : PageNo → Ppn → MapView → Pending
+abbrev pub pending_at : PageNo → Ppn → PageMapView → Pending
 pending_at page at places = record { page = page; at = at; version = places.next_version }
 
 abbrev pub waits_after : Pending → Result FlushStep FlashStop → Option Pending
@@ -167,22 +167,22 @@ abbrev pub new_mapping : Pending → Mapping
 new_mapping p = record { at = p.at; version = p.version }
 
 -- the table after the old mapping of a page is counted no more
-abbrev pub dropped : ℕ → TableView → Option Mapping → TableView
+abbrev pub dropped : ℕ → BlockTableView → Option Mapping → BlockTableView
 dropped per_block table None = table
 dropped per_block table (Some m) = changed_at table (m.at.0 / per_block) mapped_less
 
 -- the table after a page was mapped anew, in this block
-abbrev pub placed_table : ℕ → TableView → Option Mapping → ℕ → TableView
+abbrev pub placed_table : ℕ → BlockTableView → Option Mapping → ℕ → BlockTableView
 placed_table per_block table old block = changed_at (dropped per_block table old) block mapped_more
 
 -- the table, the map and what waits after a seal
-abbrev pub table_after_seal : PageStoreView → Pending → Result FlushStep FlashStop → TableView
+abbrev pub table_after_seal : PageStoreView → Pending → Result FlushStep FlashStop → BlockTableView
 table_after_seal s p (Ok _) =
     placed_table s.world.gc.per_block s.world.table (mapping_of s.world.places p.page)
     (p.at.0 / s.world.gc.per_block)
 table_after_seal s p (Err _) = s.world.table
 
-abbrev pub places_after_seal : PageStoreView → Pending → Result FlushStep FlashStop → MapView
+abbrev pub places_after_seal : PageStoreView → Pending → Result FlushStep FlashStop → PageMapView
 places_after_seal s p (Ok _) = with_mapping s.world.places p.page (new_mapping p)
 places_after_seal s p (Err _) = s.world.places
 

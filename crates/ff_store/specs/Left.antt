@@ -1,6 +1,6 @@
 -- How many collection steps a flush may still have to make before it programs.
 use Rattle.std.specs.Prelude.{ℕ, ◌+◌, ◌-◌, ◌*◌, ◌==◌, Bool, not, if◌then◌else◌, List, length}
-use Rattle.ff_space.specs.BlockTable.{TableView, block_at, erased_count}
+use Rattle.ff_space.specs.BlockTable.{BlockTableView, block_at, erased_count}
 use Rattle.ff_map.specs.declared.places.Move.{Move}
 use Rattle.ff_gc.specs.Left.{left_in, open_count}
 use Rattle.ff_gc.specs.World.{World}
@@ -8,7 +8,7 @@ use Rattle.ff_gc.specs.declared.phase.Phase.{Phase}
 use Rattle.ff_gc.specs.declared.phase.Phase.TheVariants.{Idle, Reading, Programming, Sealing, Commit, Erasing, Aborting}
 
 -- whether the collection ends with a page to program where none of its steps fails
-abbrev pub is_ending : List Move → TableView → Phase → Bool
+abbrev pub is_ending : List Move → BlockTableView → Phase → Bool
 is_ending moves table Idle = not (open_count table.blocks + (erased_count table.blocks - 1) == 0)
 is_ending moves table (Reading job) = (block_at table job.into.0).next == length moves
 is_ending moves table (Programming job original) = (block_at table job.into.0).next == length moves

@@ -8,8 +8,8 @@ use Rattle.ff_flash.specs.FlashState.{FlashState, powered_up}
 use Rattle.ff_flash.specs.Plans.{Planned}
 use Rattle.ff_flash.specs.declared.flash.FlashStop.{FlashStop}
 use Rattle.ff_flash.specs.declared.flash.FlashStop.TheVariants.{Failed as FlashFailed, Off as FlashOff}
-use Rattle.ff_space.specs.BlockTable.{TableView, block_at}
-use Rattle.ff_map.specs.PageMap.{MapView}
+use Rattle.ff_space.specs.BlockTable.{BlockTableView, block_at}
+use Rattle.ff_map.specs.PageMap.{PageMapView}
 use Rattle.ff_scan.specs.Found.{IsScan}
 use Rattle.ff_scan.specs.Probes.{probes_of}
 use Rattle.ff_scan.specs.Probing.{IsProbeStopped, first_stop}
@@ -36,12 +36,12 @@ pub record IsOfGeometry (g : Geometry) (w : World) : Type 0 where
   pub pages : length w.places.pages ≡ g.pages
 
 -- the spare block, where it isn't erased
-abbrev pub block_to_erase : TableView → ℕ → Option Block
+abbrev pub block_to_erase : BlockTableView → ℕ → Option Block
 block_to_erase table spare =
     if (block_at table spare).next == 0 then None else Some (record { 0 = spare })
 
 -- a store of this table and this map, whose collector begins with the erase of the spare block, where that isn't erased
-abbrev pub found_store : FlashState → Geometry → ℕ → TableView → MapView → PageStoreView
+abbrev pub found_store : FlashState → Geometry → ℕ → BlockTableView → PageMapView → PageStoreView
 found_store flash g spare table places = record (new_store flash g) {
   world = record (new_store flash g).world {
     gc = record (new_collector g) {

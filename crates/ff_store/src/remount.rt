@@ -33,17 +33,17 @@ pub struct StoreBack<F> {
 }
 
 #[derive(Drop)]
-struct Room {
+struct RemountRoom {
     scan: Scan,
     collector: Collector,
 }
 
-fn make_room(alloc: Global, geometry: &Geometry) -> Result<Room, NoMemory>
+fn make_room(alloc: Global, geometry: &Geometry) -> Result<RemountRoom, NoMemory>
     requires { IsWithinLimits geometry.now }
     ensures scan { IfOk result (λ room. room.scan ≡ new_scan geometry.now) }
     ensures collector { IfOk result (λ room. room.collector ≡ new_collector geometry.now) }
 {
-    Ok(Room {
+    Ok(RemountRoom {
         scan: Scan::new(alloc, geometry)?,
         collector: Collector::new(alloc, geometry)?,
     })
@@ -103,7 +103,7 @@ impl<F: Flash> PageStore<F> {
         }
     }
 
-    fn probe(flash: F, room: Room, geometry: &Geometry) -> Result<PageStore<F>, StoreBack<F>>
+    fn probe(flash: F, room: RemountRoom, geometry: &Geometry) -> Result<PageStore<F>, StoreBack<F>>
         requires geometry { IsWithinLimits geometry.now }
         requires sound { IsRemountable geometry.now (F.state flash) }
         requires life { (F.state flash).operations ≤ 2 ^ 62 }
@@ -122,7 +122,7 @@ impl<F: Flash> PageStore<F> {
             (geometry.now.blocks * geometry.now.per_block) back.stop)) }
     {
         let mut flash = flash;
-        let Room {
+        let RemountRoom {
             mut scan,
             collector,
         } = room;

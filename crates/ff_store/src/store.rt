@@ -5,8 +5,8 @@ ghost use Rattle.ff_flash.specs.Cells.{IsSealed, cell_at, erased};
 ghost use Rattle.ff_flash.specs.FlashState.{HasOperationsLeft, powered_off};
 ghost use Rattle.ff_flash.specs.Injected.{stop_of};
 ghost use Rattle.ff_flash.specs.declared.flash.FlashStop.TheVariants.{Off};
-ghost use Rattle.ff_space.specs.BlockTable.{IsTableSound, new_table};
-ghost use Rattle.ff_map.specs.PageMap.{IsMapSound, empty_map, place_of};
+ghost use Rattle.ff_space.specs.BlockTable.{IsBlockTableSound, new_table};
+ghost use Rattle.ff_map.specs.PageMap.{IsPageMapSound, empty_map, place_of};
 ghost use Rattle.ff_gc.specs.Collector.{new_collector};
 ghost use Rattle.ff_gc.specs.World.{page_bytes};
 ghost use Rattle.ff_store.specs.Calls.{Collects, Fetches, Flushes, IsCall, IsProgrammed, MatchSealed, SameBytes, SealsPage, WantsCollect, waiting_page};
@@ -77,19 +77,19 @@ impl<F: Flash> Model for PageStore<F> {
 }
 
 #[derive(Drop)]
-struct Parts {
+struct EmptyParts {
     collector: Collector,
     space: BlockTable,
     places: PageMap,
 }
 
-fn make_parts(alloc: Global, geometry: &Geometry) -> Result<Parts, NoMemory>
+fn make_parts(alloc: Global, geometry: &Geometry) -> Result<EmptyParts, NoMemory>
     requires { IsWithinLimits geometry.now }
     ensures collector { IfOk result (λ parts. parts.collector ≡ new_collector geometry.now) }
     ensures table { IfOk result (λ parts. parts.space ≡ new_table geometry.now) }
     ensures places { IfOk result (λ parts. parts.places ≡ empty_map geometry.now) }
 {
-    Ok(Parts {
+    Ok(EmptyParts {
         collector: Collector::new(alloc, geometry)?,
         space: BlockTable::new(alloc, geometry)?,
         places: PageMap::new(alloc, geometry)?,
@@ -131,8 +131,8 @@ impl<F: Flash> PageStore<F> {
         ensures store { IsStoreSound self.now }
         ensures recoverable { IsRecoverable self.now }
         ensures left { left_of self.now.world ≤ 6 * self.now.world.gc.per_block + 5 }
-        ensures table { IsTableSound self.now.world.table }
-        ensures map { IsMapSound self.now.world.places }
+        ensures table { IsBlockTableSound self.now.world.table }
+        ensures map { IsPageMapSound self.now.world.places }
     {
         self.space.known();
         self.places.known();

@@ -25,9 +25,9 @@ pub struct Table {
 }
 
 impl Model for Table {
-    ghost use Rattle.ff_table.specs.Table.{PageTableView};
+    ghost use Rattle.ff_table.specs.Table.{TableView};
 
-    ghost Value = { PageTableView };
+    ghost Value = { TableView };
 
     ghost use Rattle.ff_table.specs.TableFields.{view_of, IsKept};
 
@@ -56,7 +56,7 @@ fn unborn(alloc: Global, pages: u32) -> Result<Vec<bool>, NoMemory>
 }
 
 impl Table {
-    ghost use Rattle.ff_table.specs.Table.{IsPageTableSound, born_count_in, fresh_table, home_of, is_born_in, marks_of, with_born, with_home, with_marks};
+    ghost use Rattle.ff_table.specs.Table.{IsTableSound, born_count_in, fresh_table, home_of, is_born_in, marks_of, with_born, with_home, with_marks};
 
     /// Every page is at home on the SSD and none is born; the marks are those handed in. The error is want of memory and
     /// hands the marks back.
@@ -81,7 +81,7 @@ impl Table {
 
     /// What every table keeps, for a caller's proof. It does nothing.
     pub fn known(&self)
-        ensures { IsPageTableSound self.now }
+        ensures { IsTableSound self.now }
     {
         let _ = &self.homes;
     }

@@ -19,7 +19,7 @@ use Rattle.ff_report.specs.Text.{session_text, summary_text}
 use Rattle.ff_sessions.specs.Sessions.{AreSessionsOf, setup_with}
 use Rattle.ff_sessions.specs.declared.session.Session.{Session}
 use Rattle.ff_settings.specs.Names.{text_of}
-use Rattle.ff_settings.specs.SettingsView.{SettingsView}
+use Rattle.ff_settings.specs.Settings.{SettingsView}
 use Rattle.ff_settings.specs.declared.given.BadSettings.{BadSettings}
 use Rattle.ff_settings.specs.declared.given.BadSettings.TheVariants as bad_settings
 use Rattle.ff_trace.specs.declared.row.Row.{Row}

@@ -4,8 +4,8 @@ use Rattle.ff_words.specs.Words.{AreRefused, AskFor}
 use Rattle.ff_words.specs.declared.asked.Command.TheVariants.{Schedule, Threads, Load}
 use Rattle.flatflash.specs.declared.refusal.Refusal.{Refusal}
 use Rattle.flatflash.specs.declared.refusal.Refusal.TheVariants as refusal
-use Rattle.flatflash.specs.declared.words.Asked.{Asked}
-use Rattle.flatflash.specs.declared.words.Asked.TheVariants as asked
+use Rattle.flatflash.specs.declared.words.Task.{Task}
+use Rattle.flatflash.specs.declared.words.Task.TheVariants as asked
 
 -- the words ask for a run of the input, row by row
 abbrev pub AskToSchedule : List (List ℕ) → Type 0
@@ -26,6 +26,6 @@ IsWordsCause words refusal.Usage = AreNoCommand words
 IsWordsCause words (refusal.Input why) = ⊥
 
 -- the words ask for this
-abbrev pub AskForWork : List (List ℕ) → Asked → Type 0
+abbrev pub AskForWork : List (List ℕ) → Task → Type 0
 AskForWork words asked.Schedule = AskToSchedule words
 AskForWork words (asked.Load number) = AskToLoad words number

@@ -8,7 +8,7 @@ use crate::outcome::Outcome;
 use crate::refusal::Refusal;
 use crate::run::{run_generated, run_input};
 use crate::tell::{tell_refusal, tell_sessions, tell_summary};
-use crate::words::{Asked, asked_of};
+use crate::words::{Task, asked_of};
 use ff_base::NoMemory;
 use ff_evict::{Pick, Picker};
 use ff_io::{Sink, Source};
@@ -41,8 +41,8 @@ pub fn schedule<S: Source, K: Sink, T: Tune + Drop, E: Pick + Drop>(
         result.status result.sessions.items }
 {
     match asked_of(alloc, words) {
-        Ok(Asked::Schedule) => schedule_input(alloc, source, sink, tuner, picker),
-        Ok(Asked::Load(number)) => load(alloc, number, sink, tuner, picker),
+        Ok(Task::Schedule) => schedule_input(alloc, source, sink, tuner, picker),
+        Ok(Task::Load(number)) => load(alloc, number, sink, tuner, picker),
         Err(refusal) => tell_refusal(alloc, sink, refusal),
     }
 }

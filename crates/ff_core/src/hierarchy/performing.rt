@@ -5,7 +5,7 @@ ghost use Rattle.ff_lines.specs.Works.{IsIdle};
 ghost use Rattle.ff_memory.specs.Begins.{CanRetreat, IsComingSlot};
 ghost use Rattle.ff_memory.specs.Located.{IsLocated};
 ghost use Rattle.ff_memory.specs.Marking.{IsUnreferred, is_passed};
-ghost use Rattle.ff_memory.specs.Places.{SamePlaces};
+ghost use Rattle.ff_memory.specs.LineBytes.{SameLineBytes};
 ghost use Rattle.ff_plb.specs.Plb.{IsFound, IsInUse};
 ghost use Rattle.ff_core.specs.CanPerform.{CanPerform, IsEvictable, IsGiven};
 ghost use Rattle.ff_core.specs.Choices.{CanCollect, IsPromotable};
@@ -141,7 +141,7 @@ impl<F: Flash, T: Tune, E: Pick> Hierarchy<F, T, E> {
         ensures passed { IsUnreferred (is_passed self.old.evictor.hand frame)
             self.old.memory self.new.memory }
         ensures located { IsLocated self.new.memory (lines_under self.new) }
-        ensures place { SamePlaces self.old.memory (lines_under self.old)
+        ensures lines { SameLineBytes self.old.memory (lines_under self.old)
             self.new.memory (lines_under self.new) }
         ensures rest { self.new ≡ record self.old {
           memory = self.new.memory;

@@ -6,7 +6,7 @@ ghost use Rattle.ff_core.specs.CoreSound.{IsCoreSound};
 ghost use Rattle.ff_core.specs.Hierarchy.{flash_under};
 ghost use Rattle.ff_core.specs.Misses.{MissesPage};
 ghost use Rattle.ff_core.specs.Serving.{PolicyAfter, page_asked};
-ghost use Rattle.ff_core.specs.Tally.{served_by};
+ghost use Rattle.ff_core.specs.EventTally.{served_by};
 ghost use Rattle.ff_model.specs.Legal.{refusal};
 ghost use Rattle.ff_core.specs.Turns.{IsAttempt, IsMissStep, IsTurn, answered};
 ghost use Rattle.ff_core.specs.declared.turn.Turn.TheVariants.{Served};

@@ -3,7 +3,7 @@ ghost use Rattle.std.specs.Prelude.{◌≡◌, ◌<◌, ◌^◌, None, true, fal
 ghost use Rattle.std.specs.Option.{is_some};
 ghost use Rattle.ff_cache.specs.Cache.{is_full_set, IsCacheSound, IsInSet};
 ghost use Rattle.ff_cache.specs.Slots.{held, cache_slot_at};
-ghost use Rattle.ff_space.specs.BlockTable.{IsTableSound};
+ghost use Rattle.ff_space.specs.BlockTable.{IsBlockTableSound};
 ghost use Rattle.ff_store.specs.PageStore.{IsStoreSound};
 ghost use Rattle.ff_device.specs.Device.{lines_in, parts_of};
 ghost use Rattle.ff_device.specs.Parts.{IsDeviceSound};
@@ -133,7 +133,7 @@ impl<F: Flash> Device<F> {
         ensures cache { IsCacheSound self.now.cache }
         ensures seen { IsStoreStateSound (seen_of self.now.store) }
         ensures store { IsStoreSound self.now.store }
-        ensures table { IsTableSound self.now.store.world.table }
+        ensures table { IsBlockTableSound self.now.store.world.table }
     {
         self.cache.known();
         store_known(&self.store);

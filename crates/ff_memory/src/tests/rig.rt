@@ -1,7 +1,7 @@
 // A memory over a plain device of 16 pages, whose calls see to it that they may be made.
 ghost use Rattle.std.specs.Prelude.{◌≡◌, ◌<◌, ◌^◌, IfSome, IsTrue, None, length, replicate, true};
 ghost use Rattle.ff_memory.specs.Memory.{fresh_memory};
-ghost use Rattle.ff_plain.specs.PlainView.{state_of};
+ghost use Rattle.ff_plain.specs.Plain.{state_of};
 ghost use Rattle.ff_plb.specs.Plb.{IsInUse, IsNoneEmpty, entry_of, slot_at};
 ghost use Rattle.ff_plb.specs.declared.slot.Way.TheVariants.{Coming};
 ghost use Rattle.ff_table.specs.Table.{fresh_table};
@@ -31,7 +31,7 @@ impl Model for Rig {
     ghost use Rattle.std.specs.Prelude.{◌≡◌, length};
     ghost use Rattle.ff_memory.specs.Located.{IsLocated};
     ghost use Rattle.ff_memory.specs.Memory.{MemoryView};
-    ghost use Rattle.ff_plain.specs.PlainView.{state_of};
+    ghost use Rattle.ff_plain.specs.Plain.{state_of};
 
     ghost Value = { MemoryView };
 

@@ -1,7 +1,7 @@
 use Rattle.std.proofs.Common.{◌≡◌, map, take}
 use Rattle.toml.specs.View.{view}
 use Rattle.ff_settings.specs.Given.{as_cuts}
-use Rattle.ff_settings.specs.Settings.{cut_of}
+use Rattle.ff_settings.specs.Document.{cut_of}
 use Rattle.ff_settings.proofs.cuts.cuts_of.Given as goal
 
 abbrev pub invariant-loop-value : goal.invariant-loop-value

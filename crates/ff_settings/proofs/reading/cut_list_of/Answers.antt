@@ -1,6 +1,6 @@
 use Rattle.std.proofs.Common.{◌∙◌, ap}
 use Rattle.std.proofs.lemmas.Result.{IfOk-weaker}
-use Rattle.ff_settings.specs.Settings.{cut_of}
+use Rattle.ff_settings.specs.Document.{cut_of}
 use Rattle.ff_settings.specs.Values.{items_in}
 use Rattle.ff_settings.proofs.Lists.{map-viewed}
 use Rattle.ff_settings.proofs.reading.cut_list_of.Goals as goal

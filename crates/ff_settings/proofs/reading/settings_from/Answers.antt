@@ -2,7 +2,7 @@ use Rattle.std.proofs.Common.{◌∙◌, List, ℕ, ap, ap₂, subst, sym}
 use Rattle.ff_flash.specs.Plans.{Planned}
 use Rattle.ff_settings.specs.Bounds.{IsSettingsSound}
 use Rattle.ff_settings.specs.Given.{as_cuts, given_view}
-use Rattle.ff_settings.specs.SettingsView.{SettingsView}
+use Rattle.ff_settings.specs.Settings.{SettingsView}
 use Rattle.ff_settings.specs.declared.cuts.WideCut.{WideCut}
 use Rattle.ff_settings.proofs.Within.{arrive-fits, sound}
 use Rattle.ff_settings.proofs.reading.settings_from.Goals as goal

@@ -19,4 +19,4 @@ returns g c =
     subst
     (λ (h : HierarchyView g.row.T.Denot g.row.E.Denot). IsTurnedBack c.args.slot h _ (record inside { memory = c.turn_back.new.self })) c.self.view_is
     (turned_back c.args.slot inside c.turn_back.new.self device given.located c.turn_back.ensures.step c.turn_back.ensures.located
-    c.turn_back.ensures.place)
+    c.turn_back.ensures.lines)

@@ -2,7 +2,7 @@ use Rattle.std.proofs.Common.{subst}
 use Rattle.ff_memory.specs.Memory.{MemoryView}
 use Rattle.ff_plb.specs.Plb.{HasEntry}
 use Rattle.ff_memory.proofs.Flights.{entry-ready}
-use Rattle.ff_memory.proofs.Steps.{advanced-located, advanced-places}
+use Rattle.ff_memory.proofs.Steps.{advanced-located, advanced-lines}
 use Rattle.ff_memory.proofs.memory.Memory.advance.Goals as goal
 
 pub step-requires : goal.step-requires
@@ -28,10 +28,10 @@ returns-clause-located g c =
     }
     c.step.ensures.step
 
-pub returns-clause-place : goal.returns-clause-place
-returns-clause-place g c =
+pub returns-clause-lines : goal.returns-clause-lines
+returns-clause-lines g c =
     let has = subst (λ (m : MemoryView). HasEntry m.slots c.args.slot c.entry-entry.result) c.self.view_is c.entry-entry.ensures in
-    advanced-places c.step.result c.args.self.now (g.D.LineDevice.state c.args.d.now) c.args.slot c.entry-entry.result c.step.new.self
+    advanced-lines c.step.result c.args.self.now (g.D.LineDevice.state c.args.d.now) c.args.slot c.entry-entry.result c.step.new.self
     (g.D.LineDevice.state c.step.new.d)
     record {
       sound = c.known.ensures;

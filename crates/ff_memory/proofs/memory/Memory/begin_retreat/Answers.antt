@@ -4,7 +4,7 @@ use Rattle.ff_lines.specs.LineMask.{has_line, mask_others}
 use Rattle.ff_memory.specs.Memory.{MemoryView}
 use Rattle.ff_memory.proofs.Begins.{retreat-frame, retreated-keeps}
 use Rattle.ff_memory.proofs.Lifts.{KeepsLinesOf}
-use Rattle.ff_memory.proofs.Moves.{move-located, move-places}
+use Rattle.ff_memory.proofs.Moves.{move-located, move-lines}
 use Rattle.ff_memory.proofs.memory.Memory.begin_retreat.Given.{Over}
 use Rattle.ff_memory.proofs.memory.Memory.begin_retreat.Goals as goal
 
@@ -26,5 +26,5 @@ keeps g c =
 pub returns-clause-located : goal.returns-clause-located
 returns-clause-located g c = move-located _ _ _ _ _ _ c.requires.located (keeps g c).move
 
-pub returns-clause-place : goal.returns-clause-place
-returns-clause-place g c = move-places _ _ _ _ _ _ c.requires.located (keeps g c).move (keeps g c).lines
+pub returns-clause-lines : goal.returns-clause-lines
+returns-clause-lines g c = move-lines _ _ _ _ _ _ c.requires.located (keeps g c).move (keeps g c).lines

@@ -1,5 +1,5 @@
 use Rattle.std.proofs.Common.{true}
-use Rattle.ff_memory.proofs.Alike.{like-device_load, like-located, like-places, like-referred}
+use Rattle.ff_memory.proofs.Alike.{like-device_load, like-located, like-lines, like-referred}
 use Rattle.ff_memory.proofs.memory.Memory.load.Goals as goal
 
 pub returns-in-Some-clause-located : goal.returns-in-Some-clause-located
@@ -8,18 +8,18 @@ returns-in-Some-clause-located g c =
     let d = g.D.LineDevice.state c.args.d.now in
     rw c.load_frame.ensures.memory (like-located m d _ d c.requires.located (like-referred m d c.in-Some.frame true))
 
-pub returns-in-Some-clause-place : goal.returns-in-Some-clause-place
-returns-in-Some-clause-place g c =
+pub returns-in-Some-clause-lines : goal.returns-in-Some-clause-lines
+returns-in-Some-clause-lines g c =
     let m = c.args.self.now in
     let d = g.D.LineDevice.state c.args.d.now in
-    rw c.load_frame.ensures.memory (like-places m d _ d (like-referred m d c.in-Some.frame true))
+    rw c.load_frame.ensures.memory (like-lines m d _ d (like-referred m d c.in-Some.frame true))
 
 pub returns-in-None-clause-located : goal.returns-in-None-clause-located
 returns-in-None-clause-located g c =
     let m = c.args.self.now in
     like-located m _ m _ c.requires.located (like-device_load _ _ _ m _ _ _ (c.load_device.ensures.load m))
 
-pub returns-in-None-clause-place : goal.returns-in-None-clause-place
-returns-in-None-clause-place g c =
+pub returns-in-None-clause-lines : goal.returns-in-None-clause-lines
+returns-in-None-clause-lines g c =
     let m = c.args.self.now in
-    like-places m _ m _ (like-device_load _ _ _ m _ _ _ (c.load_device.ensures.load m))
+    like-lines m _ m _ (like-device_load _ _ _ m _ _ _ (c.load_device.ensures.load m))

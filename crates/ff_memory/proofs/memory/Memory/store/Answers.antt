@@ -37,5 +37,5 @@ keeps g c =
 pub returns-clause-located : goal.returns-clause-located
 returns-clause-located g c = (keeps g c).located
 
-pub returns-clause-place : goal.returns-clause-place
-returns-clause-place g c = rw (c.of-at.ensures.page, c.of-at.ensures.line, c.of-at.ensures.from) at (keeps g c).stored
+pub returns-clause-lines : goal.returns-clause-lines
+returns-clause-lines g c = rw (c.of-at.ensures.page, c.of-at.ensures.line, c.of-at.ensures.from) at (keeps g c).stored

@@ -9,7 +9,7 @@ use Rattle.ff_plb.specs.declared.slot.Slot.{Slot}
 use Rattle.ff_plb.specs.declared.slot.Way.TheVariants.{Coming}
 use Rattle.ff_memory.proofs.Begins.{turned-keeps}
 use Rattle.ff_memory.proofs.Lifts.{KeepsLinesOf}
-use Rattle.ff_memory.proofs.Moves.{move-located, move-places}
+use Rattle.ff_memory.proofs.Moves.{move-located, move-lines}
 use Rattle.ff_memory.proofs.memory.Memory.turn_back.Goals as goal
 
 keeps : (c : goal.After-turn) (d : DeviceState) → IsDevice d → IsLocated c.args.self.now d
@@ -29,5 +29,5 @@ keeps c d device located =
 pub returns-clause-located : goal.returns-clause-located
 returns-clause-located c d device located = move-located _ _ _ _ _ _ located (keeps c d device located).move
 
-pub returns-clause-place : goal.returns-clause-place
-returns-clause-place c d device located = move-places _ _ _ _ _ _ located (keeps c d device located).move (keeps c d device located).lines
+pub returns-clause-lines : goal.returns-clause-lines
+returns-clause-lines c d device located = move-lines _ _ _ _ _ _ located (keeps c d device located).move (keeps c d device located).lines

@@ -1,7 +1,7 @@
 use Rattle.std.proofs.Common.{◌≡◌, ◌∙◌, length, ap}
 use Rattle.std.proofs.lemmas.Bool.{ltb-true}
 use Rattle.ff_lines.specs.declared.post.Post.{Post}
-use Rattle.ff_plain.specs.PlainView.{PlainView, drained_view}
+use Rattle.ff_plain.specs.Plain.{PlainView, drained_view}
 use Rattle.ff_plain.proofs.PlainDevice.{posted_device}
 use Rattle.ff_plain.proofs.plain.PlainLineDevice.post.Goals as goal
 

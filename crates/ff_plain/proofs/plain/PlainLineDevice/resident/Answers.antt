@@ -1,7 +1,7 @@
 use Rattle.std.proofs.Common.{subst}
 use Rattle.ff_lines.specs.DeviceState.{IsDevice}
 use Rattle.ff_plain.specs.PlainFields.{view_of}
-use Rattle.ff_plain.specs.PlainView.{PlainView, state_of}
+use Rattle.ff_plain.specs.Plain.{PlainView, state_of}
 use Rattle.ff_plain.proofs.PlainDevice.{plain_device}
 use Rattle.ff_plain.proofs.plain.PlainLineDevice.resident.Goals as goal
 

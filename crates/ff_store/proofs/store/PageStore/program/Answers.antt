@@ -1,5 +1,5 @@
 use Rattle.std.proofs.Common.{◌<◌, ◌≤◌, length, ap, sym, subst, ◌∙◌}
-use Rattle.ff_space.specs.BlockTable.{IsTableSound}
+use Rattle.ff_space.specs.BlockTable.{IsBlockTableSound}
 use Rattle.ff_store.proofs.Basics.{ready_in}
 use Rattle.ff_store.proofs.PagePrograms.{flushed_failed, flushed_off, flushed_ok}
 use Rattle.ff_store.proofs.Targets.{target_of}
@@ -12,7 +12,7 @@ pub program-requires-clause-place : goal.program-requires-clause-place
 program-requires-clause-place g c =
     let view = sym c.self.view_is in
     let on = ap (λ (s : PageStoreView). s.world.flash.on) c.self.view_is ∙ c.requires.on in
-    let table = subst (λ (s : PageStoreView). IsTableSound s.world.table) view c.known.ensures.table in
+    let table = subst (λ (s : PageStoreView). IsBlockTableSound s.world.table) view c.known.ensures.table in
     let place = subst (λ (s : PageStoreView). IsWritePlace s.world.table c.args.place.block.0 c.args.place.at.0) view c.requires.place in
     (target_of _ c.args.place.block.0 c.args.place.at.0 table (ready_in _ c.self.invariant.sound on) place).within
 
@@ -20,7 +20,7 @@ pub program-requires-clause-erased : goal.program-requires-clause-erased
 program-requires-clause-erased g c =
     let view = sym c.self.view_is in
     let on = ap (λ (s : PageStoreView). s.world.flash.on) c.self.view_is ∙ c.requires.on in
-    let table = subst (λ (s : PageStoreView). IsTableSound s.world.table) view c.known.ensures.table in
+    let table = subst (λ (s : PageStoreView). IsBlockTableSound s.world.table) view c.known.ensures.table in
     let place = subst (λ (s : PageStoreView). IsWritePlace s.world.table c.args.place.block.0 c.args.place.at.0) view c.requires.place in
     (target_of _ c.args.place.block.0 c.args.place.at.0 table (ready_in _ c.self.invariant.sound on) place).blank
 
@@ -28,7 +28,7 @@ pub invariant_of-self : goal.invariant_of-self
 invariant_of-self g c =
     let view = sym c.self.view_is in
     let on = ap (λ (s : PageStoreView). s.world.flash.on) c.self.view_is ∙ c.requires.on in
-    let table = subst (λ (s : PageStoreView). IsTableSound s.world.table) view c.known.ensures.table in
+    let table = subst (λ (s : PageStoreView). IsBlockTableSound s.world.table) view c.known.ensures.table in
     let page = subst (λ (s : PageStoreView). c.args.page.0 < length s.world.places.pages) view c.requires.page in
     let room = subst (λ (s : PageStoreView). mapped_with s.world.places c.args.page ≤ page_capacity s.world) view c.requires.room in
     let place = subst (λ (s : PageStoreView). IsWritePlace s.world.table c.args.place.block.0 c.args.place.at.0) view c.requires.place in
@@ -45,7 +45,7 @@ invariant_of-self-in-Err-Failed g c =
     let view = sym c.self.view_is in
     let on = ap (λ (s : PageStoreView). s.world.flash.on) c.self.view_is ∙ c.requires.on in
     let none = ap (λ (s : PageStoreView). s.waits) c.self.view_is ∙ c.requires.none in
-    let table = subst (λ (s : PageStoreView). IsTableSound s.world.table) view c.known.ensures.table in
+    let table = subst (λ (s : PageStoreView). IsBlockTableSound s.world.table) view c.known.ensures.table in
     let room = subst (λ (s : PageStoreView). mapped_with s.world.places c.args.page ≤ page_capacity s.world) view c.requires.room in
     let place = subst (λ (s : PageStoreView). IsWritePlace s.world.table c.args.place.block.0 c.args.place.at.0) view c.requires.place in
     let drawn = rw c.draw_version-version.ensures.drawn at c.in-Err-Failed.ensures.cells in
@@ -63,7 +63,7 @@ invariant_of-self-in-Err-Off g c =
     let view = sym c.self.view_is in
     let on = ap (λ (s : PageStoreView). s.world.flash.on) c.self.view_is ∙ c.requires.on in
     let none = ap (λ (s : PageStoreView). s.waits) c.self.view_is ∙ c.requires.none in
-    let table = subst (λ (s : PageStoreView). IsTableSound s.world.table) view c.known.ensures.table in
+    let table = subst (λ (s : PageStoreView). IsBlockTableSound s.world.table) view c.known.ensures.table in
     let room = subst (λ (s : PageStoreView). mapped_with s.world.places c.args.page ≤ page_capacity s.world) view c.requires.room in
     let place = subst (λ (s : PageStoreView). IsWritePlace s.world.table c.args.place.block.0 c.args.place.at.0) view c.requires.place in
     let drawn = rw c.draw_version-version.ensures.drawn at c.in-Err-Off.ensures.cells in

@@ -1,7 +1,7 @@
 use Rattle.std.specs.Prelude.{replicate}
 use Rattle.std.proofs.Common.{ℕ, ap}
 use Rattle.std.proofs.lemmas.List.{length-replicate}
-use Rattle.ff_plain.specs.PlainView.{fresh_page, fresh_view, state_of}
+use Rattle.ff_plain.specs.Plain.{fresh_page, fresh_view, state_of}
 use Rattle.ff_plain.specs.declared.plain.PlainPage.{PlainPage}
 use Rattle.ff_plain.proofs.PlainPages.{page_at-fresh}
 use Rattle.ff_table.specs.declared.table.Home.TheVariants.{Ssd}

@@ -61,27 +61,27 @@ line_from frames d page line None = line_at d page line
 line_from frames d page line (Some frame) = line_of (frame_at frames frame).bytes line
 
 -- the bytes of a line of a page
-abbrev pub place : MemoryView → DeviceState → ℕ → ℕ → List ℕ
-place m d page line = line_from m.frames d page line (serving_frame m page line)
+abbrev pub line_bytes : MemoryView → DeviceState → ℕ → ℕ → List ℕ
+line_bytes m d page line = line_from m.frames d page line (serving_frame m page line)
 
 -- the frame holds the page
 abbrev pub Holds : List Frame → ℕ → ℕ → Type 0
 Holds frames frame page = (frame_at frames frame).page ≡ Some (numbered page)
 
 -- no line has other bytes than before
-abbrev pub SamePlaces : MemoryView → DeviceState → MemoryView → DeviceState → Type 0
-SamePlaces m d m' d' = (page line : ℕ) → line < 64 → place m' d' page line ≡ place m d page line
+abbrev pub SameLineBytes : MemoryView → DeviceState → MemoryView → DeviceState → Type 0
+SameLineBytes m d m' d' = (page line : ℕ) → line < 64 → line_bytes m' d' page line ≡ line_bytes m d page line
 
--- the page, the line in it and the place in the line of an address
+-- the page, the line in it and the offset in the line of an address
 abbrev pub page_of : ℕ → ℕ
 page_of at = at / 4096
 
 abbrev pub line_in_page : ℕ → ℕ
 line_in_page at = at % 4096 / 64
 
-abbrev pub place_in_line : ℕ → ℕ
-place_in_line at = at % 64
+abbrev pub offset_in_line : ℕ → ℕ
+offset_in_line at = at % 64
 
 -- the byte at an address
 abbrev pub byte_of : MemoryView → DeviceState → ℕ → ℕ
-byte_of m d at = slice_index (place m d (page_of at) (line_in_page at)) (place_in_line at)
+byte_of m d at = slice_index (line_bytes m d (page_of at) (line_in_page at)) (offset_in_line at)

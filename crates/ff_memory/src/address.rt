@@ -1,6 +1,6 @@
 // Which side serves a line, and the parts of an address.
 ghost use Rattle.std.specs.Prelude.{◌≡◌, ◌+◌, ◌<◌, ◌≤◌, ◌/◌, ◌%◌, slice_range};
-ghost use Rattle.ff_memory.specs.Places.{frame_in_flight, frame_of_home, line_in_page, page_of, place_in_line, store_in_flight};
+ghost use Rattle.ff_memory.specs.LineBytes.{frame_in_flight, frame_of_home, line_in_page, page_of, offset_in_line, store_in_flight};
 ghost use Rattle.ff_memory.specs.Stores.{carries_by};
 
 use ff_base::{LINE_BYTES, PAGE_BYTES, PageNo};
@@ -47,7 +47,7 @@ pub fn carries(way: Way, copied: bool, size: usize) -> bool
     }
 }
 
-/// The parts of an address: its page, the line in the page, and the place in the line.
+/// The parts of an address: its page, the line in the page, and the offset in the line.
 #[derive(Clone, Copy)]
 pub struct Address {
     pub page: PageNo,
@@ -59,7 +59,7 @@ impl Address {
     pub fn of(at: u32) -> Address
         ensures page { result.page.0 ≡ page_of at }
         ensures line { result.line ≡ line_in_page at }
-        ensures from { result.from ≡ place_in_line at }
+        ensures from { result.from ≡ offset_in_line at }
         ensures within { result.line < 64 }
     {
         Address {
@@ -70,7 +70,7 @@ impl Address {
     }
 }
 
-/// So many bytes of a line, from a place on.
+/// So many bytes of a line, from an offset on.
 pub fn piece_of(line: &[u8; LINE_BYTES], from: u8, len: u32) -> Piece
     requires { from + len ≤ 64 }
     ensures { result ≡ slice_range line.now from (from + len) }
