@@ -1,6 +1,10 @@
 -- A page is a list of 4,096 bytes, and has 64 lines of 64 bytes.
 use Rattle.std.specs.Prelude.{ℕ, ◌+◌, ◌*◌, List, ◌++◌, take, drop, replicate, slice_range}
 
+-- how many lines a page has
+abbrev pub page_lines : ℕ
+page_lines = 64
+
 -- the bytes of a line
 abbrev pub line_of : List ℕ → ℕ → List ℕ
 line_of page line = slice_range page (64 * line) (64 * line + 64)

@@ -1,6 +1,7 @@
 // A cache's slots, found by their page's set, and what they hold.
 ghost use Rattle.std.specs.Prelude.{◌≡◌, ◌<◌, ◌≤◌, ◌+◌, IfSome, length, MatchOption};
 ghost use Rattle.std.specs.Option.{is_none};
+ghost use Rattle.ff_base.specs.declared.numbers.TheConstants.{PAGE_LINES};
 ghost use Rattle.ff_base.specs.Page.{line_of};
 ghost use Rattle.ff_cache.specs.Cache.{first_of, is_full_set, IsCacheSound, IsEmptyWay, IsSlotOf};
 ghost use Rattle.ff_cache.specs.Slots.{held, holds, is_empty, cache_slot_at, IsFirstThat, NonePasses};
@@ -113,7 +114,7 @@ impl Cache {
     /// The 64 bytes of a line, one below 64, of the slot's page.
     pub fn line(&self, slot: u32, line: u8) -> [u8; LINE_BYTES]
         requires slot { slot < length self.now.slots }
-        requires line { line < 64 }
+        requires line { line < PAGE_LINES }
         ensures { result ≡ line_of (cache_slot_at self.now.slots slot).bytes line }
     {
         self.slots[slot as usize].bytes.line(line)

@@ -1,5 +1,6 @@
 // A slot of the cache.
 ghost use Rattle.std.specs.Prelude.{◌≡◌, ◌<◌, ◌≤◌, ◌+◌, IfOk, length};
+ghost use Rattle.ff_base.specs.declared.numbers.TheConstants.{LINE_BYTES, PAGE_LINES};
 ghost use Rattle.ff_cache.specs.Slots.{empty_slot, holds, is_empty, slot_filled, slot_flushed, slot_flushing, slot_pinned, slot_written};
 
 use ff_base::{NoMemory, PageBuf, PageNo};
@@ -51,8 +52,8 @@ impl Slot {
     }
 
     pub fn write(&mut self, line: u8, from: u8, piece: &Piece)
-        requires line { line < 64 }
-        requires span { from + length piece.now ≤ 64 }
+        requires line { line < PAGE_LINES }
+        requires span { from + length piece.now ≤ LINE_BYTES }
         ensures { self.new ≡ slot_written self.old line from piece.now }
     {
         overlay_page(&mut self.bytes, line, from, piece);

@@ -1,6 +1,7 @@
 -- What a history, the memory and its device are to each other.
 use Rattle.std.specs.Prelude.{ℕ, ◌<◌, ◌≤◌, ◌≡◌, ◌==◌, List, length}
 use Rattle.std.specs.Int.{bit_at}
+use Rattle.ff_base.specs.declared.numbers.TheConstants.{PAGE_LINES}
 use Rattle.ff_kept.specs.Keeping.{IsKeepingDevice}
 use Rattle.ff_lines.specs.DeviceState.{DeviceState}
 use Rattle.ff_memory.specs.Located.{IsLocated}
@@ -23,7 +24,7 @@ pub record IsTold (opening : Opening) (entries : List Entry) (m : MemoryView) (d
   pub flat : IsFlat opening.base entries opening.pages (byte_of m d)
   pub born : (page : ℕ) → page < opening.pages
       → is_born_in m.table page ≡ is_born opening.base entries page
-  pub marks : (page line : ℕ) → line < 64
+  pub marks : (page line : ℕ) → line < PAGE_LINES
       → (bit_at (marks_of m.table page) line == 1) ≡ is_marked opening.base entries page line
   pub located : IsLocated m d
   pub keeping : IsKeepingDevice opening.base entries d

@@ -1,6 +1,7 @@
 -- How many events a call may still take until it is answered.
 use Rattle.std.specs.Prelude.{ℕ, ◌+◌, ◌*◌, Bool, true, false, not, List, length, Option, Some, None, if◌then◌else◌}
 use Rattle.std.specs.Option.{is_some}
+use Rattle.ff_base.specs.declared.numbers.TheConstants.{PAGE_LINES}
 use Rattle.ff_base.specs.declared.numbers.PageNo.{PageNo}
 use Rattle.ff_cache.specs.Cache.{all_below, way_at, CacheView}
 use Rattle.ff_device.specs.Device.{parts_of}
@@ -21,7 +22,7 @@ use Rattle.ff_core.specs.Hierarchy.{HierarchyView, lines_under}
 
 -- how many lines aren't in the set
 unfoldable pub clear_lines : LineMask → ℕ
-clear_lines mask = count_below (λ line. not (has_line mask line)) 64
+clear_lines mask = count_below (λ line. not (has_line mask line)) PAGE_LINES
 
 -- the steps of a page in flight: the end of its flight, two for each line that isn't copied then, and the last
 abbrev pub entry_steps : Slot → ℕ

@@ -1,6 +1,7 @@
 -- What a loss of power leaves of a session.
 use Rattle.std.specs.Prelude.{ℕ, ◌-◌, ◌<◌, ◌≤◌, ◌≡◌, ◌==◌, List, [], length, drop, take, min, slice_index}
 use Rattle.std.specs.Int.{bit_at}
+use Rattle.ff_base.specs.declared.numbers.TheConstants.{PAGE_LINES}
 use Rattle.ff_base.specs.declared.geometry.Geometry.{Geometry}
 use Rattle.ff_cache.specs.Cache.{IsCacheSound}
 use Rattle.ff_cache.specs.Nv.{NvView}
@@ -54,7 +55,7 @@ kept_after core arrive =
 -- the marks of an image are those after the entries
 abbrev pub AreMarksAfter : Content → List Entry → Content → Type 0
 AreMarksAfter base entries image =
-    (page line : ℕ) → line < 64
+    (page line : ℕ) → line < PAGE_LINES
     → (bit_at (slice_index image.marks page) line == 1) ≡ is_marked base entries page line
 
 -- what the battery and the flash hold of a session that lost its power when so many of its waiting posts had arrived: a

@@ -1,6 +1,7 @@
 -- A device's parts, what they make of a page, and what they keep.
 use Rattle.std.specs.Prelude.{ℕ, ◌<◌, ◌≤◌, ◌≡◌, ◌||◌, Bool, true, false, List, [], length, All, Option, None, Some}
 use Rattle.std.specs.Option.{is_some}
+use Rattle.ff_base.specs.declared.numbers.TheConstants.{PAGE_BYTES}
 use Rattle.ff_cache.specs.Cache.{CacheView}
 use Rattle.ff_cache.specs.Slots.{held}
 use Rattle.ff_cache.specs.declared.slot.Slot.{Slot}
@@ -66,7 +67,7 @@ pub record IsFlushing (parts : Parts) (flush : PendingFlush) : Type 0 where
 -- the parts of a device with nothing in flight
 pub record CanBegin (parts : Parts) : Type 0 where
   pub pages : (page : ℕ) → is_resident parts page ≡ true → page < length parts.store.pages
-  pub size : (page : ℕ) → length (page_below parts page) ≡ 4096
+  pub size : (page : ℕ) → length (page_below parts page) ≡ PAGE_BYTES
   pub clean : (page : ℕ) (slot : Slot) → cached parts page ≡ Some slot → slot.dirty ≡ false
       → slot.bytes ≡ stored_bytes parts.store page
   pub idle : parts.store.pending ≡ None
@@ -77,7 +78,7 @@ pub record CanBegin (parts : Parts) : Type 0 where
 -- what a device keeps
 pub record IsDeviceSound (parts : Parts) : Type 0 where
   pub pages : (page : ℕ) → is_resident parts page ≡ true → page < length parts.store.pages
-  pub size : (page : ℕ) → length (page_below parts page) ≡ 4096
+  pub size : (page : ℕ) → length (page_below parts page) ≡ PAGE_BYTES
   pub clean : (page : ℕ) (slot : Slot) → cached parts page ≡ Some slot → slot.dirty ≡ false
       → slot.bytes ≡ stored_bytes parts.store page
   pub flushing : (flush : PendingFlush) → parts.store.pending ≡ Some flush → IsFlushing parts flush

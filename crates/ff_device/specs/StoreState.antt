@@ -1,6 +1,7 @@
 -- The page store as a device sees it: bytes by page, and the flush that is to be sealed.
 use Rattle.std.specs.Prelude.{ℕ, ◌+◌, ◌*◌, ◌<◌, ◌≤◌, ◌≡◌, ◌^◌, Bool, List, length, map, Option, None, Some, option_map, slice_index_or, unwrap_or}
 use Rattle.std.specs.Option.{is_some}
+use Rattle.ff_base.specs.declared.numbers.TheConstants.{PAGE_BYTES}
 use Rattle.ff_base.specs.Page.{blank_page}
 use Rattle.ff_flash.specs.Cells.{Cell, cell_at, cell_bytes}
 use Rattle.ff_map.specs.declared.places.Mapping.{Mapping}
@@ -70,4 +71,4 @@ pub record IsStoreStateSound (store : StoreState) : Type 0 where
   pub pages : length store.pages < 2 ^ 32
   pub pending : (flush : PendingFlush) → store.pending ≡ Some flush
       → flush.page < length store.pages
-  pub size : (page : ℕ) → length (stored_bytes store page) ≡ 4096
+  pub size : (page : ℕ) → length (stored_bytes store page) ≡ PAGE_BYTES

@@ -1,5 +1,6 @@
 // How a frame is scored: by a rule of the caller's, whose scores are at most 255.
 ghost use Rattle.std.specs.Prelude.{ℕ, Bool, ◌≡◌, ◌≤◌};
+ghost use Rattle.ff_base.specs.declared.numbers.TheConstants.{PAGE_LINES};
 ghost use Rattle.ff_evict.specs.Picker.{KeepsScores};
 
 use std::marker::Model;
@@ -45,7 +46,7 @@ impl<E: Pick> Picker<E> {
 
     /// The score of a frame, from its referred flag and the number of its dirty lines, at most 64.
     pub fn score(&self, referred: bool, dirty: u32) -> u16
-        requires { dirty ≤ 64 }
+        requires { dirty ≤ PAGE_LINES }
         ensures score { result ≡ E.score self.now.pick referred dirty }
         ensures small { result ≤ 255 }
     {

@@ -1,7 +1,7 @@
 // One page frame.
 ghost use Rattle.std.specs.Prelude.{◌≡◌, ◌+◌, ◌<◌, ◌≤◌, IfOk, length};
 ghost use Rattle.ff_frames.specs.Frame.{cleaned_frame, filled_frame, free_frame, given_frame, referred_frame, taken_frame, written_frame};
-ghost use Rattle.ff_base.specs.declared.numbers.TheConstants.{PAGE_BYTES};
+ghost use Rattle.ff_base.specs.declared.numbers.TheConstants.{PAGE_BYTES, PAGE_LINES};
 
 use ff_base::{LINE_BYTES, NoMemory, PageBuf, PageNo};
 use ff_lines::{LineMask, overlay_page};
@@ -47,8 +47,8 @@ impl Frame {
     }
 
     pub(crate) fn write(&mut self, line: u8, from: u8, piece: &Piece)
-        requires line { line < 64 }
-        requires fits { from + length piece.now ≤ 64 }
+        requires line { line < PAGE_LINES }
+        requires fits { from + length piece.now ≤ LINE_BYTES }
         ensures frame { self.new ≡ written_frame line from piece.now self.old }
         ensures size { length self.old.bytes ≡ PAGE_BYTES }
     {
@@ -57,7 +57,7 @@ impl Frame {
     }
 
     pub(crate) fn fill(&mut self, line: u8, bytes: &[u8; LINE_BYTES])
-        requires { line < 64 }
+        requires { line < PAGE_LINES }
         ensures frame { self.new ≡ filled_frame line bytes.now self.old }
         ensures size { length self.old.bytes ≡ PAGE_BYTES }
     {
@@ -65,7 +65,7 @@ impl Frame {
     }
 
     pub(crate) fn clean(&mut self, line: u8)
-        requires { line < 64 }
+        requires { line < PAGE_LINES }
         ensures { self.new ≡ cleaned_frame line self.old }
     {
         self.dirty.clear(line);

@@ -1,5 +1,6 @@
 // The page frames, by number.
 ghost use Rattle.std.specs.Prelude.{◌≡◌, ◌≢◌, ◌+◌, ◌<◌, ◌≤◌, ◌↔◌, ◌^◌, IfOk, IfSome, IfNone, IsNone, IsTrue, length, None, replicate};
+ghost use Rattle.ff_base.specs.declared.numbers.TheConstants.{PAGE_LINES};
 ghost use Rattle.ff_base.specs.Page.{line_of};
 ghost use Rattle.ff_frames.specs.Frame.{cleaned_frame, filled_frame, free_frame, given_frame, referred_frame, taken_frame, written_frame};
 
@@ -118,7 +119,7 @@ impl Frames {
     /// The 64 bytes of a line below 64.
     pub fn line(&self, frame: u32, line: u8) -> [u8; LINE_BYTES]
         requires frame { frame < length self.now }
-        requires line { line < 64 }
+        requires line { line < PAGE_LINES }
         ensures { result ≡ line_of (frame_at self.now frame).bytes line }
     {
         self.frames[frame as usize].bytes.line(line)
@@ -127,8 +128,8 @@ impl Frames {
     /// Lays a piece over a line from a place on. The line is dirty then.
     pub fn write(&mut self, frame: u32, line: u8, from: u8, piece: &Piece)
         requires frame { frame < length self.old }
-        requires line { line < 64 }
-        requires fits { from + length piece.now ≤ 64 }
+        requires line { line < PAGE_LINES }
+        requires fits { from + length piece.now ≤ LINE_BYTES }
         ensures { self.new ≡ with_frame self.old frame
             (written_frame line from piece.now (frame_at self.old frame)) }
     {
@@ -138,7 +139,7 @@ impl Frames {
     /// Sets a line's bytes, and leaves whether it is dirty.
     pub fn fill(&mut self, frame: u32, line: u8, bytes: &[u8; LINE_BYTES])
         requires frame { frame < length self.old }
-        requires line { line < 64 }
+        requires line { line < PAGE_LINES }
         ensures { self.new ≡ with_frame self.old frame
             (filled_frame line bytes.now (frame_at self.old frame)) }
     {
@@ -148,7 +149,7 @@ impl Frames {
     /// Makes a line clean.
     pub fn clean(&mut self, frame: u32, line: u8)
         requires frame { frame < length self.old }
-        requires line { line < 64 }
+        requires line { line < PAGE_LINES }
         ensures { self.new
             ≡ with_frame self.old frame (cleaned_frame line (frame_at self.old frame)) }
     {

@@ -1,6 +1,7 @@
 -- The calls that are drawn.
 use Rattle.std.specs.Prelude.{ℕ, zero, suc, ◌+◌, ◌*◌, ◌/◌, ◌%◌, ◌==◌, nat_le, if◌then◌else◌, List, [], ◌∷◌}
 use Rattle.std.specs.Int.{to_be_bytes, w64}
+use Rattle.ff_base.specs.declared.numbers.TheConstants.{LINE_BYTES, PAGE_BYTES, PAGE_LINES}
 use Rattle.ff_model.specs.declared.op.Op.{Op}
 use Rattle.ff_model.specs.declared.op.Op.TheVariants.{Load, Store, Verify}
 use Rattle.ff_gen.specs.Draws.{next_state, drawn_number}
@@ -16,7 +17,7 @@ drawn_page number = if number % 4 == 0 then number / 4 % 256 else number / 4 % 1
 
 -- the address of a line of a page
 abbrev pub address_of : ℕ → ℕ → ℕ
-address_of page line = drawn_page page * 4096 + line % 64 * 64
+address_of page line = drawn_page page * PAGE_BYTES + line % PAGE_LINES * LINE_BYTES
 
 -- an access, from the state behind its kind: the page and then the line are drawn, and the bytes of a store
 abbrev pub access_from : ℕ → ℕ → Drawn

@@ -1,6 +1,7 @@
 -- The rows that a number makes.
 use Rattle.std.specs.Prelude.{ℕ, ◌+◌, ◌%◌, ◌==◌, if◌then◌else◌, List, [], ◌∷◌, ◌++◌}
 use Rattle.std.specs.List.{enumerate_from, flat_map}
+use Rattle.ff_base.specs.Page.{page_lines}
 use Rattle.ff_model.specs.declared.counts.Kind.TheVariants.{Promote, Evict, Collect, Drain}
 use Rattle.ff_model.specs.declared.op.Op.{Op}
 use Rattle.ff_model.specs.declared.op.Op.TheVariants.{Mark}
@@ -22,7 +23,7 @@ rows_at (number, op) = Call (record { 0 = number % 4 }) op ∷ turns_behind numb
 
 -- a caller marks a page of its own
 abbrev pub mark_row : ℕ → Row
-mark_row caller = Call (record { 0 = caller }) (Mark (record { 0 = 240 + caller }) 0 64)
+mark_row caller = Call (record { 0 = caller }) (Mark (record { 0 = 240 + caller }) 0 page_lines)
 
 -- each of the four callers does so
 abbrev pub mark_rows : List Row

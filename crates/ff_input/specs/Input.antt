@@ -2,7 +2,7 @@
 use Rattle.std.specs.Prelude.{ℕ, ◌+◌, ◌-◌, ◌≡◌, ◌==◌, ◌≤◌, ◌<◌, ◌||◌, if◌then◌else◌, Bool, List, ◌++◌, length, drop, take, codes, slice_index, Option, Some, None, IfSome, []}
 use Rattle.std.specs.Str.{bytes_eq}
 use Rattle.std.specs.Io.KnownBytes.{Keeps}
-use Rattle.ff_base.specs.Count.{Rose}
+use Rattle.ff_io.specs.Faults.{IsFaultCounted}
 use Rattle.ff_input.specs.declared.input_bytes.ReadStop.{ReadStop}
 use Rattle.ff_input.specs.declared.input_bytes.ReadStop.TheVariants as read_stop
 
@@ -56,8 +56,7 @@ pub record ReadsTooMuch (source : SourceChange) : Type 0 where
 -- a read failed, and before it no more bytes came than an input may have
 pub record FailsToRead (source : SourceChange) : Type 0 where
   pub bytes : TakesBytes source.before source.after (λ count. count ≤ input_limit)
-  pub faults : Rose source.faults_before source.faults_after
-  pub no_fall : source.faults_before ≤ source.faults_after
+  pub faults : IsFaultCounted source.faults_before source.faults_after
 
 -- the whole input was read, and it is such
 pub record ReadsWhole (source : SourceChange) (IsSuch : List ℕ → Type 0) : Type 0 where

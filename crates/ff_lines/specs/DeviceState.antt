@@ -1,5 +1,6 @@
 -- What a contract sees of a device of lines, and what its calls make of it.
 use Rattle.std.specs.Prelude.{ℕ, ◌<◌, ◌≤◌, ◌≡◌, ◌↔◌, Bool, true, List, [], ◌∷◌, ◌++◌, length, All, if◌then◌else◌, ◌==◌}
+use Rattle.ff_base.specs.declared.numbers.TheConstants.{LINE_BYTES}
 use Rattle.ff_lines.specs.PageSets.{count_below, with_page, SameSet}
 use Rattle.ff_lines.specs.Posts.{laid, waits_in, IsPost}
 use Rattle.ff_lines.specs.declared.post.Post.{Post}
@@ -46,7 +47,7 @@ HasRoom d page = count_below (with_page page d.written) d.pages ≤ d.room
 
 -- what every device keeps
 pub record IsDevice (d : DeviceState) : Type 0 where
-  pub sizes : (page line : ℕ) → length (d.below page line) ≡ 64
+  pub sizes : (page line : ℕ) → length (d.below page line) ≡ LINE_BYTES
   pub within : (page : ℕ) → d.resident page ≡ true → page < d.pages
   pub posts : All IsPost d.posts
   pub waiting : (page : ℕ) → waits d page ≡ true → d.resident page ≡ true

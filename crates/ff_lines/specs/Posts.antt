@@ -1,6 +1,7 @@
 -- Posted stores, and what they make of a line.
 use Rattle.std.specs.Prelude.{ℕ, ◌+◌, ◌<◌, ◌≤◌, ◌==◌, ◌&&◌, Bool, List, [], ◌∷◌, length, if◌then◌else◌}
 use Rattle.std.specs.List.{list_any}
+use Rattle.ff_base.specs.declared.numbers.TheConstants.{LINE_BYTES, PAGE_LINES}
 use Rattle.ff_lines.specs.Overlay.{overlaid}
 use Rattle.ff_lines.specs.declared.post.Post.{Post}
 
@@ -24,5 +25,5 @@ waits_in posts page = list_any (λ post. post.page.0 == page) posts
 
 -- the post is to bytes of one line
 pub record IsPost (post : Post) : Type 0 where
-  pub line : post.line < 64
-  pub span : post.from + length post.bytes ≤ 64
+  pub line : post.line < PAGE_LINES
+  pub span : post.from + length post.bytes ≤ LINE_BYTES

@@ -1,5 +1,6 @@
 // What the memory asks of a device of lines.
 ghost use Rattle.std.specs.Prelude.{◌≡◌, ◌<◌, ◌≤◌, ◌+◌, ◌^◌, length, true, false};
+ghost use Rattle.ff_base.specs.declared.numbers.TheConstants.{PAGE_LINES};
 ghost use Rattle.ff_lines.specs.DeviceState.{DeviceState, HasRoom, IsDevice, IsDrained, IsPinned, IsPosted, line_at};
 ghost use Rattle.ff_lines.specs.Works.{IsIdle, KeepsLines, Works};
 
@@ -40,7 +41,7 @@ pub trait LineDevice {
     /// Drains every post, and reads a line below 64. A `hit` is an access of a caller.
     fn read_line(&mut self, page: PageNo, line: u8, hit: bool) -> [u8; LINE_BYTES]
         requires resident { (state self.old).resident page.0 ≡ true }
-        requires line { line < 64 }
+        requires line { line < PAGE_LINES }
         ensures bytes { result ≡ line_at (state self.old) page.0 line }
         ensures drained { IsDrained (state self.old) (state self.new) }
         ensures own { own self.new ≡ own self.old };
@@ -49,8 +50,8 @@ pub trait LineDevice {
     /// caller's store in the history.
     fn post(&mut self, page: PageNo, line: u8, from: u8, piece: &Piece, position: Option<u32>)
         requires resident { (state self.old).resident page.0 ≡ true }
-        requires line { line < 64 }
-        requires fits { from + length piece.now ≤ 64 }
+        requires line { line < PAGE_LINES }
+        requires fits { from + length piece.now ≤ LINE_BYTES }
         requires room { HasRoom (state self.old) page.0 }
         ensures posted { IsPosted
             (record { page = page; line = line; from = from; bytes = piece.now; position = position })

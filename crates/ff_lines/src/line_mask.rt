@@ -1,5 +1,6 @@
 // A set of lines as a mask of 64 bits.
 ghost use Rattle.std.specs.Prelude.{◌≡◌, ◌<◌, ◌≤◌, ◌+◌, ◌==◌, ◌||◌, ◌&&◌, ℕ, not, IfSome, IsNone, ◌↔◌};
+ghost use Rattle.ff_base.specs.declared.numbers.TheConstants.{PAGE_LINES};
 ghost use Rattle.ff_lines.specs.LineMask.{has_line, IsLeastClear, IsLineRange, HasEveryLine, mask_with, mask_without, mask_others};
 
 /// A set of a page's lines, in which bit i stands for line i.
@@ -9,7 +10,7 @@ pub struct LineMask(pub u64);
 impl LineMask {
     /// So many lines, from one on.
     pub fn of_range(from: u32, count: u32) -> LineMask
-        requires { from + count ≤ 64 }
+        requires { from + count ≤ PAGE_LINES }
         ensures { IsLineRange from count result }
     {
         let mut mask = LineMask(0);
@@ -22,9 +23,9 @@ impl LineMask {
     /// Puts a line into the set.
     #[tactic(auto, unfolding(crate::specs::LineMask::mask_with))]
     pub fn set(&mut self, line: u8)
-        requires { line < 64 }
+        requires { line < PAGE_LINES }
         ensures mask { self.new ≡ mask_with self.old line }
-        ensures lines { (q : ℕ) → q < 64 → has_line self.new q
+        ensures lines { (q : ℕ) → q < PAGE_LINES → has_line self.new q
             ≡ ((q == line) || has_line self.old q) }
     {
         self.0 |= 1 << line;
@@ -33,9 +34,9 @@ impl LineMask {
     /// Takes a line out of the set.
     #[tactic(auto, unfolding(crate::specs::LineMask::mask_without))]
     pub fn clear(&mut self, line: u8)
-        requires { line < 64 }
+        requires { line < PAGE_LINES }
         ensures mask { self.new ≡ mask_without self.old line }
-        ensures lines { (q : ℕ) → q < 64 → has_line self.new q
+        ensures lines { (q : ℕ) → q < PAGE_LINES → has_line self.new q
             ≡ (not (q == line) && has_line self.old q) }
     {
         self.0 &= !(1 << line);
@@ -43,7 +44,7 @@ impl LineMask {
 
     /// Whether a line is in the set.
     pub fn has(&self, line: u8) -> bool
-        requires { line < 64 }
+        requires { line < PAGE_LINES }
         ensures { result ≡ has_line self.now line }
     {
         self.0 >> line & 1 == 1
@@ -64,7 +65,7 @@ impl LineMask {
     #[tactic(auto, unfolding(crate::specs::LineMask::mask_others))]
     pub fn complement(&self) -> LineMask
         ensures mask { result ≡ mask_others self.now }
-        ensures lines { (q : ℕ) → q < 64 → has_line result q ≡ not (has_line self.now q) }
+        ensures lines { (q : ℕ) → q < PAGE_LINES → has_line result q ≡ not (has_line self.now q) }
     {
         LineMask(!self.0)
     }

@@ -1,5 +1,6 @@
 -- What a step of a page in flight does.
 use Rattle.std.specs.Prelude.{ℕ, ◌≡◌, ◌<◌, Bool, true, false, List, length, Option, Some, None}
+use Rattle.ff_base.specs.declared.numbers.TheConstants.{PAGE_LINES}
 use Rattle.ff_base.specs.Page.{line_of}
 use Rattle.ff_frames.specs.Frame.{cleaned_frame, filled_frame, given_frame}
 use Rattle.ff_frames.specs.Frames.{frame_at}
@@ -25,7 +26,7 @@ pub record IsReady (m : MemoryView) (d : DeviceState) (slot : ℕ) (entry : Slot
   pub frame : entry.frame < length m.frames
   pub holds : Holds m.frames entry.frame entry.page.0
   pub resident : d.resident entry.page.0 ≡ true
-  pub line : (flight : Flight) → entry.flight ≡ Some flight → flight.line < 64
+  pub line : (flight : Flight) → entry.flight ≡ Some flight → flight.line < PAGE_LINES
   pub room : (flight : Flight) → entry.way ≡ Leaving → entry.flight ≡ Some flight
       → HasRoom d entry.page.0
 

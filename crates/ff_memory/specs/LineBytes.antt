@@ -1,5 +1,6 @@
 -- Where each line of each page is, and which side serves it.
 use Rattle.std.specs.Prelude.{ℕ, ◌≡◌, ◌<◌, ◌/◌, ◌%◌, Bool, List, Option, Some, None, if◌then◌else◌, is_none, slice_index}
+use Rattle.ff_base.specs.declared.numbers.TheConstants.{LINE_BYTES, PAGE_BYTES, PAGE_LINES}
 use Rattle.ff_base.specs.Page.{line_of}
 use Rattle.ff_frames.specs.Frames.{frame_at}
 use Rattle.ff_frames.specs.declared.frame.Frame.{Frame}
@@ -70,17 +71,17 @@ Holds frames frame page = (frame_at frames frame).page ≡ Some (numbered page)
 
 -- no line has other bytes than before
 abbrev pub SameLineBytes : MemoryView → DeviceState → MemoryView → DeviceState → Type 0
-SameLineBytes m d m' d' = (page line : ℕ) → line < 64 → line_bytes m' d' page line ≡ line_bytes m d page line
+SameLineBytes m d m' d' = (page line : ℕ) → line < PAGE_LINES → line_bytes m' d' page line ≡ line_bytes m d page line
 
 -- the page, the line in it and the offset in the line of an address
 abbrev pub page_of : ℕ → ℕ
-page_of at = at / 4096
+page_of at = at / PAGE_BYTES
 
 abbrev pub line_in_page : ℕ → ℕ
-line_in_page at = at % 4096 / 64
+line_in_page at = at % PAGE_BYTES / LINE_BYTES
 
 abbrev pub offset_in_line : ℕ → ℕ
-offset_in_line at = at % 64
+offset_in_line at = at % LINE_BYTES
 
 -- the byte at an address
 abbrev pub byte_of : MemoryView → DeviceState → ℕ → ℕ

@@ -1,6 +1,7 @@
 -- The facts that tie a memory to its device. None speaks of a history: "the right bytes" are the device's line, where the
 -- device has them, or the frame's.
 use Rattle.std.specs.Prelude.{ℕ, ◌≡◌, ◌≢◌, ◌<◌, ◌≤◌, true, false, List, length, Option, Some, None, IfSome, is_some}
+use Rattle.ff_base.specs.declared.numbers.TheConstants.{PAGE_LINES}
 use Rattle.ff_base.specs.Page.{line_of}
 use Rattle.ff_frames.specs.Frames.{frame_at}
 use Rattle.ff_frames.specs.declared.frame.Frame.{Frame}
@@ -20,20 +21,20 @@ use Rattle.ff_memory.specs.LineBytes.{Holds, frame_of_page}
 -- the frame's lines that aren't dirty are the device's
 abbrev pub IsClean : Frame → DeviceState → ℕ → Type 0
 IsClean frame d page =
-    (line : ℕ) → line < 64 → has_line frame.dirty line ≡ false
+    (line : ℕ) → line < PAGE_LINES → has_line frame.dirty line ≡ false
     → line_of frame.bytes line ≡ line_at d page line
 
 -- the flight of a coming page's line holds the device's line, unless the line was stored to meanwhile
 abbrev pub IsComingFlight : DeviceState → ℕ → LineMask → Option Flight → Type 0
 IsComingFlight d page bits flight =
     IfSome flight
-    (λ f. (f.line < 64) × (has_line bits f.line ≡ false → f.bytes ≡ line_at d page f.line))
+    (λ f. (f.line < PAGE_LINES) × (has_line bits f.line ≡ false → f.bytes ≡ line_at d page f.line))
 
 -- the flight of a leaving page's line holds the frame's line, which isn't copied
 abbrev pub IsLeavingFlight : Frame → LineMask → Option Flight → Type 0
 IsLeavingFlight frame bits flight =
     IfSome flight (λ f.
-    (f.line < 64) × (has_line bits f.line ≡ false) × (f.bytes ≡ line_of frame.bytes f.line))
+    (f.line < PAGE_LINES) × (has_line bits f.line ≡ false) × (f.bytes ≡ line_of frame.bytes f.line))
 
 -- a page on its way into a frame: nothing waits for it, a copied line is the device's unless it is dirty, and a dirty line
 -- counts as copied
@@ -41,16 +42,16 @@ pub record IsComing (frame : Frame) (d : DeviceState) (page : ℕ) (home : Home)
     (flight : Option Flight) : Type 0 where
   pub home_is : home ≡ Ssd
   pub idle : waits d page ≡ false
-  pub clean : (line : ℕ) → line < 64 → has_line frame.dirty line ≡ false → has_line bits line ≡ true
+  pub clean : (line : ℕ) → line < PAGE_LINES → has_line frame.dirty line ≡ false → has_line bits line ≡ true
       → line_of frame.bytes line ≡ line_at d page line
-  pub copied : (line : ℕ) → line < 64 → has_line frame.dirty line ≡ true → has_line bits line ≡ true
+  pub copied : (line : ℕ) → line < PAGE_LINES → has_line frame.dirty line ≡ true → has_line bits line ≡ true
   pub flies : IsComingFlight d page bits flight
 
 -- a page on its way out of its frame: a line that isn't copied is dirty
 pub record IsLeaving (frame : Frame) (home : Home) (at : ℕ) (bits : LineMask)
     (flight : Option Flight) : Type 0 where
   pub home_is : home ≡ Host at
-  pub dirty : (line : ℕ) → line < 64 → has_line bits line ≡ false → has_line frame.dirty line ≡ true
+  pub dirty : (line : ℕ) → line < PAGE_LINES → has_line bits line ≡ false → has_line frame.dirty line ≡ true
   pub flies : IsLeavingFlight frame bits flight
 
 -- the facts of a page in flight, by its way
@@ -80,7 +81,7 @@ IsSited frames d page home (Some entry) = IsInFlight frames d page home entry
 -- who is born and what is marked: what is written on the device or dirty in a frame is born, no more pages are than the
 -- device has room for, and a page with a marked line is home
 pub record IsAccounted (m : MemoryView) (d : DeviceState) : Type 0 where
-  pub dirty_born : (frame page line : ℕ) → line < 64 → Holds m.frames frame page
+  pub dirty_born : (frame page line : ℕ) → line < PAGE_LINES → Holds m.frames frame page
       → has_line (frame_at m.frames frame).dirty line ≡ true → is_born_in m.table page ≡ true
   pub written_born : (page : ℕ) → d.written page ≡ true → is_born_in m.table page ≡ true
   pub few_born : born_count_in m.table ≤ m.capacity

@@ -1,5 +1,6 @@
 -- What a store answers and does.
 use Rattle.std.specs.Prelude.{ℕ, ◌≡◌, ◌≢◌, ◌+◌, ◌<◌, ◌≤◌, ◌==◌, ◌&&◌, Bool, true, false, not, List, length, Option, Some, None, if◌then◌else◌}
+use Rattle.ff_base.specs.declared.numbers.TheConstants.{LINE_BYTES, PAGE_LINES}
 use Rattle.ff_frames.specs.Frame.{filled_frame, referred_frame, written_frame}
 use Rattle.ff_frames.specs.Frames.{frame_at, with_frame}
 use Rattle.ff_frames.specs.declared.frame.Frame.{Frame}
@@ -32,14 +33,14 @@ pub record IsStoreGiven (page line from : ℕ) (piece : List ℕ) (m : MemoryVie
   pub device : IsDevice d
   pub located : IsLocated m d
   pub within : page < length m.table.homes
-  pub low : line < 64
-  pub fits : from + length piece ≤ 64
+  pub low : line < PAGE_LINES
+  pub fits : from + length piece ≤ LINE_BYTES
   pub allowed : is_store_refused m page ≡ false
 
 -- whether a store to a line of a page in flight carries the rest of the line: the page is coming, the line isn't copied and
 -- the piece isn't a whole line
 abbrev pub carries_by : Way → Bool → ℕ → Bool
-carries_by Coming copied size = if copied then false else not (size == 64)
+carries_by Coming copied size = if copied then false else not (size == LINE_BYTES)
 carries_by Leaving copied size = false
 
 -- whether a store to a line of the page carries the rest of the line
@@ -126,7 +127,7 @@ IsStore page line from piece position m d access m' d' =
 pub record IsStored (page line from : ℕ) (piece : List ℕ) (m : MemoryView) (d : DeviceState)
     (m' : MemoryView) (d' : DeviceState) : Type 0 where
   pub here : line_bytes m' d' page line ≡ overlaid (line_bytes m d page line) from piece
-  pub others : (q j : ℕ) → j < 64 → (q ≡ page → j ≢ line) → line_bytes m' d' q j ≡ line_bytes m d q j
+  pub others : (q j : ℕ) → j < PAGE_LINES → (q ≡ page → j ≢ line) → line_bytes m' d' q j ≡ line_bytes m d q j
 
 -- what a store's answer says of the lines
 abbrev pub StoresBy : Access → ℕ → ℕ → ℕ → List ℕ → MemoryView → DeviceState → MemoryView

@@ -1,5 +1,6 @@
 // Which side serves a line, and the parts of an address.
 ghost use Rattle.std.specs.Prelude.{◌≡◌, ◌+◌, ◌<◌, ◌≤◌, ◌/◌, ◌%◌, slice_range};
+ghost use Rattle.ff_base.specs.declared.numbers.TheConstants.{PAGE_LINES};
 ghost use Rattle.ff_memory.specs.LineBytes.{frame_in_flight, frame_of_home, line_in_page, page_of, offset_in_line, store_in_flight};
 ghost use Rattle.ff_memory.specs.Stores.{carries_by};
 
@@ -60,7 +61,7 @@ impl Address {
         ensures page { result.page.0 ≡ page_of at }
         ensures line { result.line ≡ line_in_page at }
         ensures from { result.from ≡ offset_in_line at }
-        ensures within { result.line < 64 }
+        ensures within { result.line < PAGE_LINES }
     {
         Address {
             page: PageNo(at / PAGE_BYTES as u32),
@@ -72,7 +73,7 @@ impl Address {
 
 /// So many bytes of a line, from an offset on.
 pub fn piece_of(line: &[u8; LINE_BYTES], from: u8, len: u32) -> Piece
-    requires { from + len ≤ 64 }
+    requires { from + len ≤ LINE_BYTES }
     ensures { result ≡ slice_range line.now from (from + len) }
 {
     let from = from as usize;

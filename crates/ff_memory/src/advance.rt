@@ -1,5 +1,6 @@
 // The steps of pages in flight.
 ghost use Rattle.std.specs.Prelude.{◌≡◌, ◌≢◌, ◌<◌, None, Some, false, length};
+ghost use Rattle.ff_base.specs.declared.numbers.TheConstants.{PAGE_LINES};
 ghost use Rattle.ff_lines.specs.DeviceState.{IsPinned};
 ghost use Rattle.ff_lines.specs.LineMask.{has_line};
 ghost use Rattle.ff_memory.specs.Advances.{Advances, AdvancesBy, FinishesOrLifts, IsLandedOnDevice, IsReady, LandsBy, LiftsFrom, finished_by, source_line};
@@ -104,7 +105,7 @@ impl Memory {
 
     fn lift<D: LineDevice>(&mut self, d: &mut D, slot: u32, entry: &Slot, line: u8)
         requires ready { IsReady self.old (D.state d.old) slot entry.now }
-        requires line { line < 64 }
+        requires line { line < PAGE_LINES }
         ensures memory { self.new ≡ slot_set slot
             (Some (after_lift
             (record {
@@ -140,7 +141,7 @@ impl Memory {
         requires has { HasEntry self.old.slots slot entry.now }
         requires frame { entry.now.frame < length self.old.frames }
         requires flight { entry.now.flight ≡ Some flight.now }
-        requires line { flight.now.line < 64 }
+        requires line { flight.now.line < PAGE_LINES }
         ensures { (d : _) → LandsBy Coming (has_line entry.now.bits flight.now.line)
             slot entry.now flight.now self.old d result self.new d }
     {

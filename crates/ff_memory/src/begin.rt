@@ -1,5 +1,6 @@
 // The beginnings of migrations: promotion, retreat and turning back.
 ghost use Rattle.std.specs.Prelude.{ℕ, ◌≡◌, ◌≢◌, ◌<◌, ◌↔◌, IsTrue, Some, length, not};
+ghost use Rattle.ff_base.specs.declared.numbers.TheConstants.{PAGE_LINES};
 ghost use Rattle.ff_lines.specs.DeviceState.{DeviceState, IsDevice};
 ghost use Rattle.ff_frames.specs.Frames.{IsLeastFree, IsNoneFree, frame_at};
 ghost use Rattle.ff_lines.specs.LineMask.{has_line, mask_others};
@@ -137,7 +138,7 @@ impl Memory {
         requires page { entry.now.page.0 < length self.old.table.homes }
         ensures memory { self.new ≡ home_set entry.now.page.0 (Home.Host entry.now.frame)
             (slot_set slot (Some (after_turn dirty entry.now)) self.old) }
-        ensures copied { (line : ℕ) → line < 64
+        ensures copied { (line : ℕ) → line < PAGE_LINES
             → has_line (mask_others dirty) line ≡ not (has_line dirty line) }
     {
         self.plb.turn_back(slot, dirty);

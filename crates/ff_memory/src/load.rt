@@ -1,5 +1,6 @@
 // Loads.
 ghost use Rattle.std.specs.Prelude.{◌≡◌, ◌+◌, ◌<◌, ◌≤◌, IsTrue, None, length, slice_range, true};
+ghost use Rattle.ff_base.specs.declared.numbers.TheConstants.{LINE_BYTES, PAGE_LINES};
 ghost use Rattle.ff_base.specs.Page.{line_of};
 ghost use Rattle.ff_frames.specs.Frame.{referred_frame};
 ghost use Rattle.ff_frames.specs.Frames.{frame_at};
@@ -17,8 +18,8 @@ use ff_lines::LineDevice;
 use ff_model::Reply;
 
 fn load_device<D: LineDevice>(d: &mut D, at: Address, len: u32) -> Access
-    requires line { at.line < 64 }
-    requires span { at.from + len ≤ 64 }
+    requires line { at.line < PAGE_LINES }
+    requires span { at.from + len ≤ LINE_BYTES }
     ensures load { (m : _) → IsLoadBy None ((D.state d.old).resident at.page.0) at.page.0
         (slice_range (line_at (D.state d.old) at.page.0 at.line) at.from (at.from + len))
         m (D.state d.old) result m (D.state d.new) }
@@ -51,8 +52,8 @@ impl Memory {
 
     fn load_frame(&mut self, frame: u32, at: Address, len: u32) -> Access
         requires frame { frame < length self.old.frames }
-        requires line { at.line < 64 }
-        requires span { at.from + len ≤ 64 }
+        requires line { at.line < PAGE_LINES }
+        requires span { at.from + len ≤ LINE_BYTES }
         ensures access { result ≡ Access.Served
             (Reply.Bytes (slice_range (line_of (frame_at self.old.frames frame).bytes at.line)
             at.from (at.from + len)))

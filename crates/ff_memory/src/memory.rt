@@ -1,5 +1,6 @@
 // The host memory: its parts, and the frame that serves a line.
 ghost use Rattle.std.specs.Prelude.{◌≡◌, ◌<◌, IfSome, length};
+ghost use Rattle.ff_base.specs.declared.numbers.TheConstants.{PAGE_LINES};
 ghost use Rattle.ff_lines.specs.LineMask.{has_line};
 ghost use Rattle.ff_plb.specs.Plb.{IsInUse, slot_at};
 
@@ -58,7 +59,7 @@ impl Memory {
     // The frame that serves a line below 64.
     pub(crate) fn serving(&self, page: PageNo, line: u8) -> Option<u32>
         requires page { page.0 < length self.now.table.homes }
-        requires line { line < 64 }
+        requires line { line < PAGE_LINES }
         ensures { result ≡ serving_frame self.now page.0 line }
     {
         match self.plb.find(page) {
@@ -69,7 +70,7 @@ impl Memory {
 
     fn serving_in_flight(&self, slot: u32, line: u8) -> Option<u32>
         requires slot { IsInUse self.now.slots slot }
-        requires line { line < 64 }
+        requires line { line < PAGE_LINES }
         ensures { IfSome (slot_at self.now.slots slot)
             (λ entry. result ≡ frame_in_flight entry.way entry.frame (has_line entry.bits line)) }
     {

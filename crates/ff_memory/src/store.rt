@@ -1,5 +1,6 @@
 // Stores.
 ghost use Rattle.std.specs.Prelude.{◌≡◌, ◌+◌, ◌<◌, ◌≤◌, IfSome, IsTrue, None, Some, false, length, true};
+ghost use Rattle.ff_base.specs.declared.numbers.TheConstants.{LINE_BYTES, PAGE_LINES};
 ghost use Rattle.ff_lines.specs.DeviceState.{HasRoom, line_at};
 ghost use Rattle.ff_model.specs.Spans.{is_span};
 ghost use Rattle.ff_plb.specs.Plb.{HasEntry, IsFound};
@@ -83,8 +84,8 @@ impl Memory {
         position: u32,
     ) -> Access
         requires page { at.page.0 < length self.old.table.homes }
-        requires line { at.line < 64 }
-        requires span { at.from + length piece.now ≤ 64 }
+        requires line { at.line < PAGE_LINES }
+        requires span { at.from + length piece.now ≤ LINE_BYTES }
         requires rests { entry_at self.old at.page.0 ≡ None }
         requires room { HasRoom (D.state d.old) at.page.0 }
         requires frame { IfSome (frame_for (home_at self.old at.page.0) None at.line)
@@ -110,8 +111,8 @@ impl Memory {
         position: u32,
     ) -> Access
         requires in_range { at.page.0 < length self.old.table.homes }
-        requires line { at.line < 64 }
-        requires span { at.from + length piece.now ≤ 64 }
+        requires line { at.line < PAGE_LINES }
+        requires span { at.from + length piece.now ≤ LINE_BYTES }
         requires found { IsFound self.old.slots at.page.0 slot }
         requires room { HasRoom (D.state d.old) at.page.0 }
         requires ready { (entry : _) → HasEntry self.old.slots slot entry
@@ -137,8 +138,8 @@ impl Memory {
         at: Address,
         piece: &Piece,
     ) -> Access
-        requires line { at.line < 64 }
-        requires span { at.from + length piece.now ≤ 64 }
+        requires line { at.line < PAGE_LINES }
+        requires span { at.from + length piece.now ≤ LINE_BYTES }
         requires ready { IsReady self.old (D.state d.old) slot entry.now }
         requires page { entry.now.page.0 ≡ at.page.0 }
         requires entry { entry_at self.old at.page.0 ≡ Some entry.now }
@@ -153,7 +154,7 @@ impl Memory {
 
     // The device's bytes of a line that isn't copied come into the frame, where only a part of the line is stored.
     fn carry<D: LineDevice>(&mut self, d: &mut D, entry: &Slot, line: u8, size: usize)
-        requires line { line < 64 }
+        requires line { line < PAGE_LINES }
         requires frame { entry.now.frame < length self.old.frames }
         requires resident { (D.state d.old).resident entry.now.page.0 ≡ true }
         ensures memory { self.new ≡ frame_set entry.now.frame
@@ -174,8 +175,8 @@ impl Memory {
     fn write_frame(&mut self, frame: u32, at: Address, piece: &Piece) -> Access
         requires page { at.page.0 < length self.old.table.homes }
         requires frame { frame < length self.old.frames }
-        requires line { at.line < 64 }
-        requires span { at.from + length piece.now ≤ 64 }
+        requires line { at.line < PAGE_LINES }
+        requires span { at.from + length piece.now ≤ LINE_BYTES }
         ensures access { result ≡ Access.Served Reply.Done Side.Host }
         ensures memory { self.new ≡ frame_set frame (stored_frame at.line at.from piece.now)
             (born_set at.page.0 self.old) }
@@ -195,8 +196,8 @@ impl Memory {
         position: u32,
     ) -> Access
         requires page { at.page.0 < length self.old.table.homes }
-        requires line { at.line < 64 }
-        requires span { at.from + length piece.now ≤ 64 }
+        requires line { at.line < PAGE_LINES }
+        requires span { at.from + length piece.now ≤ LINE_BYTES }
         requires room { HasRoom (D.state d.old) at.page.0 }
         ensures store { IsStoreBy false None ((D.state d.old).resident at.page.0)
             at.page.0 at.line at.from piece.now position

@@ -1,6 +1,7 @@
 -- Which bytes and lines a call may name.
 use Rattle.std.specs.Prelude.{ℕ, ◌+◌, ◌*◌, ◌%◌, ◌&&◌, nat_le, nat_lt, Bool, true, length}
-use Rattle.ff_base.specs.declared.numbers.TheConstants.{LINE_BYTES, PAGE_BYTES, PAGE_LINES}
+use Rattle.ff_base.specs.Page.{page_lines}
+use Rattle.ff_base.specs.declared.numbers.TheConstants.{LINE_BYTES, PAGE_BYTES}
 use Rattle.ff_model.specs.declared.op.Op.{Op}
 use Rattle.ff_model.specs.declared.op.Op.TheVariants.{Load, Store, Verify, Mark, Release}
 
@@ -12,7 +13,7 @@ is_span pages at len =
 
 -- a range of lines is some lines of one of the pages
 abbrev pub is_line_range : ℕ → ℕ → ℕ → ℕ → Bool
-is_line_range pages page from count = nat_lt page pages && nat_le 1 count && nat_le (from + count) PAGE_LINES
+is_line_range pages page from count = nat_lt page pages && nat_le 1 count && nat_le (from + count) page_lines
 
 -- the call is in range
 abbrev pub is_in_range : ℕ → Op → Bool

@@ -1,6 +1,7 @@
 // What a remount finds: held pages and marked lines.
 ghost use Rattle.std.specs.Prelude.{◌≡◌, ◌<◌, ◌↔◌, IfOk, OnOk, OnErr, IsTrue, IsSome, length, slice_index, vec_len};
 ghost use Rattle.std.specs.Option.{option_copied};
+ghost use Rattle.ff_base.specs.declared.numbers.TheConstants.{PAGE_LINES};
 ghost use Rattle.ff_model.specs.Image.{byte_at, byte_in, empty_content, held_page, line_in, with_marked, with_held};
 
 use ff_base::{LINE_BYTES, Marks, NoMemory, PAGE_BYTES, PageBuf, PageNo};
@@ -109,7 +110,7 @@ impl Image {
     /// The 64 bytes of a line, zeros where the page isn't held.
     pub fn line(&self, page: PageNo, line: u8) -> [u8; LINE_BYTES]
         requires page { page.0 < length self.now.pages }
-        requires line { line < 64 }
+        requires line { line < PAGE_LINES }
         ensures { result ≡ line_in (held_page self.now page.0) line }
     {
         line_of(&self.pages[page.0 as usize], line)
@@ -138,7 +139,7 @@ fn no_pages(alloc: Global, pages: u32) -> Result<Vec<Option<PageBuf>>, NoMemory>
 
 #[tactic(auto, unfolding(ff_base::specs::Page::blank_line))]
 fn line_of(page: &Option<PageBuf>, line: u8) -> [u8; LINE_BYTES]
-    requires { line < 64 }
+    requires { line < PAGE_LINES }
     ensures { result ≡ line_in page.now line }
 {
     match page {

@@ -18,7 +18,7 @@ impl Model for Piece {
 
     ghost view = { λ p. p.bytes.items };
 
-    ghost invariant = { λ p. length p.bytes.items ≤ 64 };
+    ghost invariant = { λ p. length p.bytes.items ≤ PIECE_BYTES };
 
     ghost inverse = { λ bytes. record { bytes = record { items = bytes } } };
 }
@@ -34,7 +34,7 @@ impl Piece {
     }
 
     pub fn push(&mut self, byte: u8)
-        requires { length self.old < 64 }
+        requires { length self.old < PIECE_BYTES }
         ensures { self.new ≡ self.old ++ byte ∷ [] }
     {
         self.bytes.push(byte);
@@ -42,14 +42,14 @@ impl Piece {
 
     pub fn as_slice(&self) -> &[u8]
         ensures bytes { result.now ≡ self.now }
-        ensures size { length self.now ≤ 64 }
+        ensures size { length self.now ≤ PIECE_BYTES }
     {
         self.bytes.as_slice()
     }
 
     /// A piece of these bytes. It takes no memory.
     pub fn from_slice(bytes: &[u8]) -> Piece
-        requires { length bytes.now ≤ 64 }
+        requires { length bytes.now ≤ PIECE_BYTES }
         ensures { result ≡ bytes.now }
     {
         let mut piece = ArrayVec::new();

@@ -1,6 +1,7 @@
 -- What a contract sees of a plain device.
 use Rattle.std.specs.Prelude.{ℕ, ◌<◌, ◌≡◌, Bool, true, false, List, length, All, nat_lt, if◌then◌else◌, Option, Some, None, replicate, slice_set, slice_index_or}
 use Rattle.std.specs.Option.{option_to_list}
+use Rattle.ff_base.specs.declared.numbers.TheConstants.{PAGE_BYTES}
 use Rattle.ff_base.specs.Page.{blank_page}
 use Rattle.ff_lines.specs.BlankLine.{line_or_blank}
 use Rattle.ff_lines.specs.DeviceState.{DeviceState}
@@ -51,7 +52,7 @@ drained_view plain = record { pages = pages_after plain.post plain.pages; post =
 
 -- each page has its size, and the post is to bytes of a line of one of them
 pub record IsPlain (plain : PlainView) : Type 0 where
-  pub sizes : (page : ℕ) → length (page_at plain.pages page).bytes ≡ 4096
+  pub sizes : (page : ℕ) → length (page_at plain.pages page).bytes ≡ PAGE_BYTES
   pub posts : All IsPost (option_to_list plain.post)
   pub waiting : (page : ℕ) → waits_in (option_to_list plain.post) page ≡ true
       → page < length plain.pages

@@ -1,5 +1,6 @@
 // Pages in memory, and the one post that waits for them.
 ghost use Rattle.std.specs.Prelude.{◌≡◌, ◌<◌, ◌≤◌, ◌+◌, IfOk, length, slice_set};
+ghost use Rattle.ff_base.specs.declared.numbers.TheConstants.{PAGE_LINES};
 ghost use Rattle.ff_lines.specs.BlankLine.{line_or_blank};
 ghost use Rattle.ff_plain.specs.Plain.{after_post, drained_view, fresh_page, fresh_view, page_at, pinned_page, state_of, written_page, IsPlain};
 
@@ -51,8 +52,8 @@ fn fresh(alloc: Global) -> Result<PlainPage, NoMemory>
 
 fn lay(pages: &mut Vec<PlainPage>, post: &Post)
     requires page { post.now.page.0 < length pages.old.items }
-    requires line { post.now.line < 64 }
-    requires fits { post.now.from + length post.now.bytes ≤ 64 }
+    requires line { post.now.line < PAGE_LINES }
+    requires fits { post.now.from + length post.now.bytes ≤ LINE_BYTES }
     ensures { pages.new.items ≡ slice_set pages.old.items post.now.page.0
         (after_post post.now (page_at pages.old.items post.now.page.0)) }
 {
@@ -78,7 +79,7 @@ fn set_pin(pages: &mut Vec<PlainPage>, page: PageNo, on: bool)
 
 fn read(pages: &[PlainPage], page: PageNo, line: u8) -> [u8; LINE_BYTES]
     requires page { page.0 < length pages.now }
-    requires line { line < 64 }
+    requires line { line < PAGE_LINES }
     ensures { result ≡ line_or_blank (page_at pages.now page.0).bytes line }
 {
     pages[page.0 as usize].bytes.line(line)

@@ -1,5 +1,6 @@
 -- One entry of the buffer, and what each call makes of it.
 use Rattle.std.specs.Prelude.{ℕ, ◌≡◌, ◌<◌, ◌==◌, Option, Some, None, if◌then◌else◌}
+use Rattle.ff_base.specs.declared.numbers.TheConstants.{PAGE_LINES}
 use Rattle.ff_lines.specs.LineMask.{has_line, mask_with, mask_others}
 use Rattle.ff_lines.specs.declared.line_mask.LineMask.{LineMask}
 use Rattle.ff_plb.specs.declared.slot.Flight.{Flight}
@@ -31,7 +32,7 @@ after_landing entry = landed_with entry.flight entry
 pub record IsFlying (entry : Slot) : Type 0 where
   pub flight : Flight
   pub is : entry.flight ≡ Some flight
-  pub in_page : flight.line < 64
+  pub in_page : flight.line < PAGE_LINES
 
 -- a flight, unless it is of this line
 abbrev pub without_line : ℕ → Option Flight → Option Flight

@@ -1,5 +1,6 @@
 // The slots of the buffer.
 ghost use Rattle.std.specs.Prelude.{ℕ, ◌≡◌, ◌<◌, ◌↔◌, not, IfOk, IfSome, IsSome, IsTrue, MatchOption, None, Some, option_copied, option_map, replicate, length};
+ghost use Rattle.ff_base.specs.declared.numbers.TheConstants.{PAGE_LINES};
 ghost use Rattle.ff_lines.specs.LineMask.{has_line, mask_others};
 ghost use Rattle.ff_plb.specs.NextStep.{IsLeastNext, IsNextIn, IsNoneNext};
 ghost use Rattle.ff_plb.specs.Plb.{ArePagesApart, HasEntry, HasFlight, IsEmpty, IsFound, IsInUse, IsLeastEmpty, IsNoneEmpty, entry_if, entry_of, slot_at, with_slot};
@@ -207,7 +208,7 @@ impl Plb {
     /// leaving page's line is cancelled.
     pub fn store_hit(&mut self, slot: u32, line: u8)
         requires used { IsInUse self.old slot }
-        requires line { line < 64 }
+        requires line { line < PAGE_LINES }
         ensures { self.new
             ≡ with_slot self.old slot (option_map (after_store line) (slot_at self.old slot)) }
     {
@@ -220,7 +221,7 @@ impl Plb {
         requires { IsInUse self.old slot }
         ensures slots { self.new
             ≡ with_slot self.old slot (option_map (after_turn dirty) (slot_at self.old slot)) }
-        ensures copied { (line : ℕ) → line < 64
+        ensures copied { (line : ℕ) → line < PAGE_LINES
             → has_line (mask_others dirty) line ≡ not (has_line dirty line) }
     {
         let entry = self.entry(slot);

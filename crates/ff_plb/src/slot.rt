@@ -1,5 +1,6 @@
 // One page in flight.
 ghost use Rattle.std.specs.Prelude.{ℕ, ◌≡◌, ◌<◌, ◌↔◌, IfSome, IsTrue, None, Some, not};
+ghost use Rattle.ff_base.specs.declared.numbers.TheConstants.{PAGE_LINES};
 ghost use Rattle.ff_lines.specs.LineMask.{has_line, mask_others, mask_with};
 ghost use Rattle.ff_plb.specs.NextStep.{IsNext};
 ghost use Rattle.ff_plb.specs.Slot.{IsFlying, after_landing, after_lift, after_store, after_turn, landing_of, without_line};
@@ -107,7 +108,7 @@ impl Slot {
     }
 
     fn without_flight(self, line: u8) -> Slot
-        requires { line < 64 }
+        requires { line < PAGE_LINES }
         ensures { result ≡ record self { bits = mask_with self.bits line; flight = None } }
     {
         let mut bits = self.bits;
@@ -120,7 +121,7 @@ impl Slot {
     }
 
     pub(crate) fn stored(self, line: u8) -> Slot
-        requires { line < 64 }
+        requires { line < PAGE_LINES }
         ensures { result ≡ after_store line self }
     {
         match self.way {
@@ -133,7 +134,7 @@ impl Slot {
     }
 
     fn copied(self, line: u8) -> Slot
-        requires { line < 64 }
+        requires { line < PAGE_LINES }
         ensures { result ≡ record self { bits = mask_with self.bits line } }
     {
         let mut bits = self.bits;
@@ -143,7 +144,7 @@ impl Slot {
 
     pub(crate) fn turned(self, dirty: LineMask) -> Slot
         ensures entry { result ≡ after_turn dirty self }
-        ensures copied { (line : ℕ) → line < 64
+        ensures copied { (line : ℕ) → line < PAGE_LINES
             → has_line (mask_others dirty) line ≡ not (has_line dirty line) }
     {
         Slot {

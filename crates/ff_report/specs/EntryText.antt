@@ -1,8 +1,8 @@
 -- How an answered call is spelled. Numbers are decimal, bytes are lower-case hexadecimal digits.
 use Rattle.std.specs.Prelude.{ℕ, ◌==◌, ◌&&◌, if◌then◌else◌, List, [], ◌∷◌, ◌++◌, codes, decimal}
 use Rattle.std.specs.List.{flat_map}
+use Rattle.ff_base.specs.Page.{page_lines}
 use Rattle.hex.specs.Hex.{encode_lower}
-use Rattle.ff_base.specs.declared.numbers.TheConstants.{PAGE_LINES}
 use Rattle.ff_model.specs.declared.history.Entry.{Entry}
 use Rattle.ff_model.specs.declared.op.Op.{Op}
 use Rattle.ff_model.specs.declared.op.Op.TheVariants.{Load, Store, Verify, Mark, Release}
@@ -17,7 +17,7 @@ bytes_text (byte ∷ bytes) = encode_lower (byte ∷ bytes)
 -- a page and a range of its lines: that of all lines is left out
 abbrev pub range_text : ℕ → ℕ → ℕ → List ℕ
 range_text page from count =
-    if (from == 0) && (count == PAGE_LINES) then decimal page
+    if (from == 0) && (count == page_lines) then decimal page
     else decimal page ++ codes " " ++ decimal from ++ codes "+" ++ decimal count
 
 -- a call

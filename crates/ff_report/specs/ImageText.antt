@@ -3,8 +3,7 @@ use Rattle.std.specs.Prelude.{ℕ, ◌==◌, ◌-◌, ◌^◌, if◌then◌else�
 use Rattle.std.specs.Int.{to_be_bytes, w64}
 use Rattle.std.specs.List.{flat_map, list_all, range_with_len}
 use Rattle.hex.specs.Hex.{encode_lower}
-use Rattle.ff_base.specs.Page.{line_of}
-use Rattle.ff_base.specs.declared.numbers.TheConstants.{PAGE_LINES}
+use Rattle.ff_base.specs.Page.{line_of, page_lines}
 use Rattle.ff_model.specs.Image.{Content, held_page}
 use Rattle.ff_report.specs.Remounted.{RemountedView, Found, Faulted, Cut}
 
@@ -53,7 +52,7 @@ line_text page bytes line =
 
 -- the numbers of a page's lines
 unfoldable pub line_numbers : List ℕ
-line_numbers = range_with_len 0 PAGE_LINES
+line_numbers = range_with_len 0 page_lines
 
 -- a page that isn't held has no line of text
 abbrev pub page_text : ℕ → Option (List ℕ) → List ℕ

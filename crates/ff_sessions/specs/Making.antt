@@ -7,6 +7,7 @@ use Rattle.ff_core.specs.Powered.{IsCutOff}
 use Rattle.ff_flash.specs.FlashState.{FlashState}
 use Rattle.ff_model.specs.Callers.{AreNumbered, entries_of}
 use Rattle.ff_model.specs.declared.history.Entry.{Entry}
+use Rattle.ff_trace.specs.Fields.{caller_count}
 use Rattle.ff_trace.specs.declared.row.Row.{Row}
 use Rattle.ff_sessions.specs.Items.{BeginWithWork, IsWork, Item, call, turn}
 use Rattle.ff_sessions.specs.Stops.{IsStopWithin, items_at, items_behind, stop_items}
@@ -28,8 +29,8 @@ most_operations = 2 ^ 13
 
 -- the number of each caller's next call: how many it has made
 pub record AreNext (numbers : List ℕ) (entries : List Entry) : Type 0 where
-  pub size : length numbers ≡ 64
-  pub each : (caller : ℕ) → caller < 64
+  pub size : length numbers ≡ caller_count
+  pub each : (caller : ℕ) → caller < caller_count
       → slice_index numbers caller ≡ length (entries_of caller entries)
 
 -- the session is open: its power is on, and the calls of each caller are numbered from 0

@@ -4,6 +4,7 @@ ghost use Rattle.ff_core.specs.BackEvents.{IsBackEvent};
 ghost use Rattle.ff_core.specs.Core.{spare_calls, spare_turns};
 ghost use Rattle.ff_core.specs.Hierarchy.{flash_under};
 ghost use Rattle.ff_core.specs.Powered.{GoesOffByCut};
+ghost use Rattle.ff_trace.specs.Fields.{caller_count};
 ghost use Rattle.ff_trace.specs.Within.{IsOfCaller};
 ghost use Rattle.ff_trace.specs.declared.row.Row.TheVariants as rows;
 ghost use Rattle.ff_sessions.specs.Items.{turn};
@@ -59,7 +60,7 @@ fn make_each<F: Flash, T: Tune, E: Pick>(
     requires cursor { at.row ≤ length rows.now }
     requires on { (flash_under core.old.hierarchy).on ≡ true }
     requires calls { core.old.history.entries ≡ [] }
-    requires numbers { numbers.old ≡ replicate 64 0 }
+    requires numbers { numbers.old ≡ replicate caller_count 0 }
     requires room { HasRoomFor core.old (items_at rows.now at) }
     ensures { StopsAt core.old rows.now at result core.new }
 {
@@ -100,7 +101,7 @@ fn make_call<F: Flash, T: Tune, E: Pick>(
     caller: Caller,
     op: &Op,
 ) -> RowStop
-    requires caller { caller.0 < 64 }
+    requires caller { caller.0 < caller_count }
     requires opened { IsOpen core.old numbers.old }
     requires room { 0 < spare_calls core.old }
     ensures { RowRuns core.old (rows.Call caller op.now) 0 result core.new numbers.new }

@@ -5,6 +5,8 @@ use Rattle.std.specs.List.{list_all}
 use Rattle.std.specs.Str.{bytes_eq}
 use Rattle.hex.specs.Hex.{decode_of, hex_digit_value}
 use Rattle.std.specs.Result.{result_ok}
+use Rattle.ff_base.specs.Page.{page_lines}
+use Rattle.ff_base.specs.declared.numbers.TheConstants.{LINE_BYTES}
 use Rattle.ff_model.specs.declared.counts.Kind.{Kind}
 use Rattle.ff_model.specs.declared.counts.Kind.TheVariants.{Promote, Evict, Collect, Drain}
 use Rattle.ff_model.specs.declared.op.Op.{Op}
@@ -29,7 +31,7 @@ number_of field = if is_number field then Some (digits_value field) else None
 
 -- at most 64 bytes, as an even count of hexadecimal digits of either case
 abbrev pub hex_bytes_of : List ℕ → Option (List ℕ)
-hex_bytes_of field = if nat_le (length field) 128 then result_ok (decode_of field) else None
+hex_bytes_of field = if nat_le (length field) (2 * LINE_BYTES) then result_ok (decode_of field) else None
 
 -- the value of a hexadecimal digit, and 16 for any other byte
 abbrev pub digit_or_sixteen : ℕ → ℕ
@@ -61,7 +63,7 @@ range_at field (Some at) = both_of make_range (number_of (take at field)) (numbe
 
 -- a range of lines: all lines where the field is empty, else the first line and the count with a `+` between
 abbrev pub line_range_of : List ℕ → Option LineRange
-line_range_of [] = Some (record { from = 0; count = 64 })
+line_range_of [] = Some (record { from = 0; count = page_lines })
 line_range_of (byte ∷ bytes) = range_at (byte ∷ bytes) (plus_at (byte ∷ bytes))
 
 -- a mark and a release of some lines of a page
@@ -81,10 +83,14 @@ op_of op a b =
     else if bytes_eq op (codes "release") then both_of make_release (number_of a) (line_range_of b)
     else None
 
--- one of the callers, which are 64
+-- how many callers there are
+abbrev pub caller_count : ℕ
+caller_count = 64
+
+-- one of the callers
 abbrev pub caller_in : Option ℕ → Option ℕ
 caller_in None = None
-caller_in (Some number) = if nat_lt number 64 then Some number else None
+caller_in (Some number) = if nat_lt number caller_count then Some number else None
 
 -- a caller
 abbrev pub caller_of : List ℕ → Option ℕ

@@ -1,12 +1,13 @@
 -- What the rows of every trace are within.
 use Rattle.std.specs.Prelude.{ℕ, ◌+◌, ◌*◌, ◌<◌, ◌≤◌, Bool, true, false, ⊤, List, All, length, count_by, sum_by}
+use Rattle.ff_trace.specs.Fields.{caller_count}
 use Rattle.ff_trace.specs.Tally.{most_losses, most_rows, most_turns}
 use Rattle.ff_trace.specs.declared.row.Row.{Row}
 use Rattle.ff_trace.specs.declared.row.Row.TheVariants.{Call, Turns, Power}
 
--- a call is of one of the callers, which are 64
+-- a call is of one of the callers
 abbrev pub IsOfCaller : Row → Type 0
-IsOfCaller (Call caller op) = caller.0 < 64
+IsOfCaller (Call caller op) = caller.0 < caller_count
 IsOfCaller (Turns kind count) = ⊤
 IsOfCaller (Power arrive) = ⊤
 

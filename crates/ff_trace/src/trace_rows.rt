@@ -13,8 +13,8 @@ use crate::tally::{Limits, MAX_ROWS, Tally};
 use csv::{ByteRecord, ErrorKind, Reader, ReaderBuilder};
 use std::alloc::Global;
 
-/// The bytes of the shortest row, `0,load,0,0`, and of the end of its line.
-const LEAST_ROW_BYTES: usize = 11;
+/// The bytes of the shortest row, `0,mark,0,`, and of the end of its line.
+const LEAST_ROW_BYTES: usize = 10;
 
 /// Why a trace was refused.
 #[derive(Clone, Copy, Debug, PartialEq, Eq)]

@@ -2,13 +2,13 @@
 use Rattle.std.specs.Prelude.{ℕ, ◌+◌, ◌≡◌, ◌≤◌, ◌⊎◌, ◌==◌, if◌then◌else◌, List, [], ◌∷◌, ◌++◌, codes, decimal, Option, Some, None, is_some, Result, Ok, Err}
 use Rattle.std.specs.List.{flat_map, list_any}
 use Rattle.std.specs.Io.KnownBytes.{Appends}
-use Rattle.ff_base.specs.Count.{Rose}
 use Rattle.ff_core.specs.Log.{turn_counts}
 use Rattle.ff_gen.specs.Generated.{generated}
 use Rattle.ff_input.specs.Asking.{Asks, IsInputCause}
 use Rattle.ff_input.specs.Input.{HasNoFault, SourceChange, Untouched}
 use Rattle.ff_input.specs.declared.reading.BadInput.{BadInput}
 use Rattle.ff_input.specs.declared.reading.BadInput.TheVariants as bad_input
+use Rattle.ff_io.specs.Faults.{IsFaultCounted}
 use Rattle.ff_io.specs.Known.{AppendsPrefix}
 use Rattle.ff_mount.specs.declared.stop.MountStop.{MountStop}
 use Rattle.ff_mount.specs.declared.stop.MountStop.TheVariants as mount_stop
@@ -24,6 +24,7 @@ use Rattle.ff_settings.specs.declared.given.BadSettings.{BadSettings}
 use Rattle.ff_settings.specs.declared.given.BadSettings.TheVariants as bad_settings
 use Rattle.ff_trace.specs.declared.row.Row.{Row}
 use Rattle.flatflash.specs.Loads.{load_setup}
+use Rattle.flatflash.specs.Statuses.{bad_input_status, bad_settings_status, done_status, no_image_status, no_memory_status, read_fault_status, usage_status, write_fault_status}
 use Rattle.flatflash.specs.Words.{AskToLoad, AskToSchedule, IsWordsCause}
 use Rattle.flatflash.specs.declared.refusal.Refusal.{Refusal}
 use Rattle.flatflash.specs.declared.refusal.Refusal.TheVariants as refusal
@@ -144,27 +145,28 @@ end_text (refused why) = refusal_text why
 
 -- the status of settings that are refused
 abbrev pub settings_status : BadSettings → ℕ
-settings_status bad_settings.NoMemory = 6
-settings_status why = 2
+settings_status bad_settings.NoMemory = no_memory_status
+settings_status why = bad_settings_status
 
 -- the status of an input that is refused
 abbrev pub input_status : BadInput → ℕ
-input_status bad_input.NoMemory = 6
-input_status bad_input.ReadFault = 4
-input_status bad_input.TooLong = 3
-input_status bad_input.NoSeparator = 3
+input_status bad_input.NoMemory = no_memory_status
+input_status bad_input.ReadFault = read_fault_status
+input_status bad_input.TooLong = bad_input_status
+input_status bad_input.NoSeparator = bad_input_status
 input_status (bad_input.BadSettings why) = settings_status why
-input_status (bad_input.BadRow number) = 3
+input_status (bad_input.BadRow number) = bad_input_status
 
 -- the status of a refusal
 abbrev pub refusal_status : Refusal → ℕ
-refusal_status refusal.NoMemory = 6
-refusal_status refusal.Usage = 1
+refusal_status refusal.NoMemory = no_memory_status
+refusal_status refusal.Usage = usage_status
 refusal_status (refusal.Input why) = input_status why
 
--- the status of sessions: 7 where one has no image, which can be the last alone
+-- the status of sessions, of which the last alone can have no image
 abbrev pub sessions_status : List Session → ℕ
-sessions_status sessions = if list_any (λ session. is_some session.stop) sessions then 7 else 0
+sessions_status sessions =
+    if list_any (λ session. is_some session.stop) sessions then no_image_status else done_status
 
 -- the status of an end
 abbrev pub end_status : End → ℕ
@@ -184,14 +186,13 @@ pub record TellsAll (sink : SinkChange) (end : End) (status : ℕ) : Type 0 wher
   pub written : Appends sink.before sink.after (end_text end)
   pub faults : sink.faults_after ≡ sink.faults_before
 
--- a write failed: status 5 stands in the place of every other but 6, and a prefix of the text was
--- written
+-- a write failed: its status stands in the place of every other but that of want of memory, and a prefix of the text
+-- was written
 pub record FailsToTell (sink : SinkChange) (end : End) (status : ℕ) : Type 0 where
-  pub status_is : status ≡ 5
-  pub has_memory : end_status end ≡ 6 → ⊥
+  pub status_is : status ≡ write_fault_status
+  pub has_memory : end_status end ≡ no_memory_status → ⊥
   pub written : AppendsPrefix sink.before sink.after (end_text end)
-  pub faults : Rose sink.faults_before sink.faults_after
-  pub no_fall : sink.faults_before ≤ sink.faults_after
+  pub faults : IsFaultCounted sink.faults_before sink.faults_after
 
 -- what is answered and written for an end
 pub record Tells (sink : SinkChange) (end : End) (status : ℕ)
@@ -204,8 +205,9 @@ abbrev pub EndsAndTells : (End → Type 0) → SinkChange → ℕ → List Sessi
 EndsAndTells IsAllowed sink status sessions =
     (end : End) × IsAllowed end × Tells sink end status sessions
 
--- the status after the sink was flushed: where that fails, 5 stands in the place of every other
--- but 6
+-- the status after the sink was flushed: where that fails, that of a failed write stands in the place of every other but
+-- that of want of memory
 abbrev pub flushed_status : {E : Type 0} → Result Unit E → ℕ → ℕ
 flushed_status (Ok done) status = status
-flushed_status (Err why) status = if status == 6 then 6 else 5
+flushed_status (Err why) status =
+    if status == no_memory_status then no_memory_status else write_fault_status

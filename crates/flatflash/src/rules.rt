@@ -1,5 +1,6 @@
 // The rules by which the program's policy sets its threshold, and its evictor scores frames.
 ghost use Rattle.std.specs.Prelude.{◌≡◌, ◌≤◌};
+ghost use Rattle.ff_base.specs.declared.numbers.TheConstants.{PAGE_LINES};
 ghost use Rattle.flatflash.specs.Rules.{dirty_score, tuned};
 
 use ff_evict::{Pick, Picker};
@@ -37,7 +38,7 @@ impl Tune for HitShare {
 pub struct FewestDirty;
 
 impl Pick for FewestDirty {
-    ghost accepts = { λ _ referred dirty. dirty ≤ 64 };
+    ghost accepts = { λ _ referred dirty. dirty ≤ PAGE_LINES };
 
     ghost score = { λ _ referred dirty. dirty_score referred dirty };
 

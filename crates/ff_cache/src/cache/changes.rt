@@ -1,5 +1,6 @@
 // What is done to one slot.
 ghost use Rattle.std.specs.Prelude.{◌≡◌, ◌<◌, ◌≤◌, ◌+◌, false, length, slice_set};
+ghost use Rattle.ff_base.specs.declared.numbers.TheConstants.{LINE_BYTES, PAGE_LINES};
 ghost use Rattle.ff_cache.specs.Cache.{values_at, with_value, IsInSet};
 ghost use Rattle.ff_cache.specs.Slots.{held, is_empty, cache_slot_at, slot_filled, slot_flushed, slot_flushing, slot_pinned, slot_written};
 ghost use Rattle.ff_rrip.specs.Ways.{long_value};
@@ -11,8 +12,8 @@ use ff_rrip::Ways;
 
 fn write_at(slots: &mut Vec<Slot>, k: u32, line: u8, from: u8, piece: &Piece)
     requires slot { k < length slots.old.items }
-    requires line { line < 64 }
-    requires span { from + length piece.now ≤ 64 }
+    requires line { line < PAGE_LINES }
+    requires span { from + length piece.now ≤ LINE_BYTES }
     ensures { slots.new.items ≡ slice_set slots.old.items k
         (slot_written (cache_slot_at slots.old.items k) line from piece.now) }
 {
@@ -64,8 +65,8 @@ impl Cache {
     pub fn write(&mut self, slot: u32, line: u8, from: u8, piece: &Piece)
         requires slot { slot < length self.old.slots }
         requires full { is_empty (cache_slot_at self.old.slots slot) ≡ false }
-        requires line { line < 64 }
-        requires span { from + length piece.now ≤ 64 }
+        requires line { line < PAGE_LINES }
+        requires span { from + length piece.now ≤ LINE_BYTES }
         ensures { self.new ≡ record self.old {
           slots = slice_set self.old.slots slot
               (slot_written (cache_slot_at self.old.slots slot) line from piece.now);

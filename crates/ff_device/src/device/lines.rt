@@ -1,6 +1,7 @@
 // The device as one of lines.
 ghost use Rattle.std.specs.Prelude.{◌≡◌, ◌≤◌, ◌<◌, ◌+◌, ◌++◌, ◌∷◌, ◌==◌, ◌^◌, [], true, false, length, drop, if◌then◌else◌};
 ghost use Rattle.std.specs.Option.{is_some};
+ghost use Rattle.ff_base.specs.declared.numbers.TheConstants.{PAGE_LINES};
 ghost use Rattle.ff_device.specs.StoreState.{seen_of};
 ghost use Rattle.ff_device.specs.Device.{lines_in, own_of, parts_of};
 ghost use Rattle.ff_device.specs.Changes.{post_of};
@@ -39,7 +40,7 @@ impl<F: Flash> Device<F> {
     #[tactic(auto, using(crate::proofs::Touching::drained_values, crate::proofs::Touching::hit_frames))]
     fn read(&mut self, page: PageNo, line: u8, hit: bool) -> [u8; LINE_BYTES]
         requires resident { (lines_in self.old).resident page.0 ≡ true }
-        requires line { line < 64 }
+        requires line { line < PAGE_LINES }
         ensures bytes { result ≡ line_at (lines_in self.old) page.0 line }
         ensures drained { IsDrained (lines_in self.old) (lines_in self.new) }
         ensures own { own_of self.new ≡ own_of self.old }
@@ -95,7 +96,7 @@ impl<F: Flash> LineDevice for Device<F> {
 
     fn read_line(&mut self, page: PageNo, line: u8, hit: bool) -> [u8; LINE_BYTES]
         requires resident { (lines_in self.old).resident page.0 ≡ true }
-        requires line { line < 64 }
+        requires line { line < PAGE_LINES }
         ensures bytes { result ≡ line_at (lines_in self.old) page.0 line }
         ensures drained { IsDrained (lines_in self.old) (lines_in self.new) }
         ensures own { own_of self.new ≡ own_of self.old }
@@ -106,8 +107,8 @@ impl<F: Flash> LineDevice for Device<F> {
 
     fn post(&mut self, page: PageNo, line: u8, from: u8, piece: &Piece, position: Option<u32>)
         requires resident { (lines_in self.old).resident page.0 ≡ true }
-        requires line { line < 64 }
-        requires fits { from + length piece.now ≤ 64 }
+        requires line { line < PAGE_LINES }
+        requires fits { from + length piece.now ≤ LINE_BYTES }
         requires room { HasRoom (lines_in self.old) page.0 }
         ensures posted { IsPosted
             (record { page = page; line = line; from = from; bytes = piece.now; position = position })

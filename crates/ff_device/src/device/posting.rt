@@ -1,5 +1,6 @@
 // Reads of cached lines, posts, and the hits that both may be.
 ghost use Rattle.std.specs.Prelude.{◌≡◌, ◌<◌, ◌++◌, ◌∷◌, ◌==◌, [], true, length, if◌then◌else◌};
+ghost use Rattle.ff_base.specs.declared.numbers.TheConstants.{PAGE_LINES};
 ghost use Rattle.ff_device.specs.Device.{lines_in, own_of, parts_of};
 ghost use Rattle.ff_device.specs.Draining.{DrainsFirst, HitIf, SameFrames};
 ghost use Rattle.ff_device.specs.Parts.{is_resident, line_below};
@@ -17,7 +18,7 @@ impl<F: Flash> Device<F> {
     #[tactic(auto, using(crate::proofs::Touching::hit_told, crate::proofs::Touching::cached_line))]
     pub(super) fn read_cached(&mut self, page: PageNo, line: u8, hit: bool) -> [u8; LINE_BYTES]
         requires resident { is_resident (parts_of self.old) page.0 ≡ true }
-        requires line { line < 64 }
+        requires line { line < PAGE_LINES }
         ensures bytes { result ≡ line_below (parts_of self.old) page.0 line }
         ensures hit { HitIf hit page.0 self.old.cache self.new.cache.values }
         ensures same { self.new ≡ record self.old {

@@ -11,8 +11,7 @@ returns-in-Err-clause-err g c =
     let taken = Consumes-kept _ _ _ c.loop.bytes.items loop.taken read.kept in
     record {
       bytes = takes_from _ _ c.loop.bytes.items _ taken loop.size;
-      faults = rw loop.faults at read.faults.0;
-      no_fall = rw loop.faults at read.faults.1;
+      faults = rw loop.faults at read.faults;
     }
 
 pub returns-then-len-gt-INPUT_LIMIT-clause-err : goal.returns-then-len-gt-INPUT_LIMIT-clause-err
