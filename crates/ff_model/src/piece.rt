@@ -1,5 +1,6 @@
 // The bytes of one call.
 ghost use Rattle.std.specs.Prelude.{◌≡◌, ◌<◌, ◌≤◌, ◌++◌, ◌∷◌, [], List, ℕ, length};
+ghost use Rattle.ff_model.specs.declared.piece.TheConstants.{PIECE_BYTES};
 
 use arrayvec::ArrayVec;
 use std::marker::Model;

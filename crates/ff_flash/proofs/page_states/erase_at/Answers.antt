@@ -11,6 +11,6 @@ loop-i-preserved c =
     let size = c.loop-i.invariant.0 in
     let state = state_is c.loop-i.states.items (c.args.first + c.loop-i.i) _ (omega arith) c.index.ensures in (
       size,
-      erases_more c.args.first c.loop-i.i c.args.injected _ c.loop-i.states.items c.erased.result (omega arith) c.loop-i.invariant.1
-          (λ bytes. c.erased.ensures bytes ∙ ap (λ s. cell_after (erase c.loop-i.i) c.args.injected (cell_of s bytes)) state),
+      erases_more c.args.first c.loop-i.i c.args.injected _ c.loop-i.states.items c.erased_state.result (omega arith) c.loop-i.invariant.1
+          (λ bytes. c.erased_state.ensures bytes ∙ ap (λ s. cell_after (erase c.loop-i.i) c.args.injected (cell_of s bytes)) state),
     )
