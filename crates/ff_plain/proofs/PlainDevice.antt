@@ -11,7 +11,7 @@ use Rattle.ff_lines.specs.Posts.{laid_on, waits_in, IsPost}
 use Rattle.ff_lines.specs.declared.post.Post.{Post}
 use Rattle.ff_lines.proofs.PageCounts.{count_below-most}
 use Rattle.ff_lines.proofs.PageOverlaid.{length-blank_page, length-line_or_blank, length-page_overlaid, line_or_blank-laid, laid_on-other}
-use Rattle.ff_plain.specs.Plain.{PlainView, after_post, drained_view, fresh_page, fresh_view, page_at, pages_after, pinned_page, state_of, written_page, IsPlain}
+use Rattle.ff_plain.specs.Plain.{PlainView, after_post, drained_view, fresh_page, fresh_view, page_at, pages_after, pinned_page, state_of, written_page, IsPlainSound}
 use Rattle.ff_plain.specs.declared.plain.PlainPage.{PlainPage}
 use Rattle.ff_plain.proofs.PlainPages.{each_after, page_at-fresh, same_after}
 
@@ -41,7 +41,7 @@ pinned_within plain page pinned = elim (cases_lt page (length plain.pages)) [
 ]
 
 -- what every device keeps
-pub plain_device : (plain : PlainView) → IsPlain plain → IsDevice (state_of plain)
+pub plain_device : (plain : PlainView) → IsPlainSound plain → IsDevice (state_of plain)
 plain_device plain is = record {
   sizes = λ page line. length-line_or_blank (page_at plain.pages page).bytes line (is.sizes page);
   within = λ page resident. ltb-true page (length plain.pages) resident;
@@ -55,7 +55,7 @@ plain_device plain is = record {
 }
 
 -- a new device is one
-pub fresh_plain : (pages : ℕ) → IsPlain (fresh_view pages)
+pub fresh_plain : (pages : ℕ) → IsPlainSound (fresh_view pages)
 fresh_plain pages = record {
   sizes = λ page. ap (λ (p : PlainPage). length p.bytes) (page_at-fresh pages page) ∙ length-blank_page;
   posts = All-nil IsPost;
@@ -63,12 +63,12 @@ fresh_plain pages = record {
 }
 
 -- the post's page is one of the device's
-pub post_within : (plain : PlainView) (post : Post) → IsPlain plain → plain.post ≡ Some post → post.page.0 < length plain.pages
+pub post_within : (plain : PlainView) (post : Post) → IsPlainSound plain → plain.post ≡ Some post → post.page.0 < length plain.pages
 post_within plain post is one =
     is.waiting post.page.0 (rw one (or_left (post.page.0 == post.page.0) false (eq-eqb post.page.0 post.page.0 refl)))
 
-pub drained_pages : (plain : PlainView) (post : Option Post) → plain.post ≡ post → IsPlain plain
-    → IsPlain (record { pages = pages_after post plain.pages; post = None })
+pub drained_pages : (plain : PlainView) (post : Option Post) → plain.post ≡ post → IsPlainSound plain
+    → IsPlainSound (record { pages = pages_after post plain.pages; post = None })
 drained_pages plain None none is = record {
   sizes = is.sizes;
   posts = All-nil IsPost;
@@ -87,7 +87,7 @@ drained_pages plain (Some post) one is =
     }
 
 -- draining keeps what a plain device keeps
-pub drained_plain : (plain : PlainView) → IsPlain plain → IsPlain (drained_view plain)
+pub drained_plain : (plain : PlainView) → IsPlainSound plain → IsPlainSound (drained_view plain)
 drained_plain plain is = drained_pages plain plain.post refl is
 
 -- a page was changed, and nothing is known of its bytes
@@ -104,7 +104,7 @@ same_residence plain k page post =
     }
 
 -- a line below a post that is laid over its page
-laid_below : (plain : PlainView) (post : Post) → IsPlain plain → plain.post ≡ Some post → (page line : ℕ)
+laid_below : (plain : PlainView) (post : Post) → IsPlainSound plain → plain.post ≡ Some post → (page line : ℕ)
     → line_or_blank (page_at (pages_after (Some post) plain.pages) page).bytes line
     ≡ laid_on page line post (line_or_blank (page_at plain.pages page).bytes line)
 laid_below plain post is one page line =
@@ -120,7 +120,7 @@ laid_below plain post is one page line =
           (sym (laid_on-other post page line (line_or_blank (page_at plain.pages page).bytes line) (λ e. apart (sym e))))
     ]
 
-drained_by : (plain : PlainView) (post : Option Post) → plain.post ≡ post → IsPlain plain
+drained_by : (plain : PlainView) (post : Option Post) → plain.post ≡ post → IsPlainSound plain
     → IsDrained (state_of plain) (state_of (record { pages = pages_after post plain.pages; post = None }))
 drained_by plain None none is = record {
   lines = record { posts = refl; below = λ page line. rw none refl };
@@ -145,12 +145,12 @@ drained_by plain (Some post) one is =
     }
 
 -- a line of the drained pages
-pub drained_line : (plain : PlainView) (page line : ℕ) → IsPlain plain
+pub drained_line : (plain : PlainView) (page line : ℕ) → IsPlainSound plain
     → line_or_blank (page_at (drained_view plain).pages page).bytes line ≡ line_at (state_of plain) page line
 drained_line plain page line is = (drained_by plain plain.post refl is).lines.below page line
 
 -- what draining does
-pub drained_device : (plain : PlainView) → IsPlain plain → IsDrained (state_of plain) (state_of (drained_view plain))
+pub drained_device : (plain : PlainView) → IsPlainSound plain → IsDrained (state_of plain) (state_of (drained_view plain))
 drained_device plain is = drained_by plain plain.post refl is
 
 -- one page is as before but for its marks
@@ -178,8 +178,8 @@ pinned_device plain k on within =
     }
 
 -- a page is pinned: it keeps what a plain device keeps
-pub pinned_plain : (plain : PlainView) (k : ℕ) (on : Bool) → k < length plain.pages → IsPlain plain
-    → IsPlain (record { pages = set plain.pages k (pinned_page on (page_at plain.pages k)); post = plain.post })
+pub pinned_plain : (plain : PlainView) (k : ℕ) (on : Bool) → k < length plain.pages → IsPlainSound plain
+    → IsPlainSound (record { pages = set plain.pages k (pinned_page on (page_at plain.pages k)); post = plain.post })
 pinned_plain plain k on within is = record {
   sizes = each_after (λ p. length p.bytes ≡ 4096) plain.pages k (pinned_page on (page_at plain.pages k)) within (is.sizes k) is.sizes;
   posts = is.posts;
@@ -198,8 +198,8 @@ waits_for post page waits = elim (or_cases (post.page.0 == page) false waits) [
 ]
 
 -- a post waits: it keeps what a plain device keeps
-pub posted_plain : (plain : PlainView) (post : Post) → post.page.0 < length plain.pages → IsPost post → IsPlain plain
-    → IsPlain (posted_view post plain)
+pub posted_plain : (plain : PlainView) (post : Post) → post.page.0 < length plain.pages → IsPost post → IsPlainSound plain
+    → IsPlainSound (posted_view post plain)
 posted_plain plain post within held is =
     let page : PlainPage = written_page (page_at plain.pages post.page.0) in
     record {
@@ -209,7 +209,7 @@ posted_plain plain post within held is =
     }
 
 -- what a post does, after what waited was drained
-pub posted_device : (plain : PlainView) (post : Post) → post.page.0 < length plain.pages → IsPlain plain
+pub posted_device : (plain : PlainView) (post : Post) → post.page.0 < length plain.pages → IsPlainSound plain
     → IsPosted post (state_of plain) (state_of (posted_view post (drained_view plain)))
 posted_device plain post within is =
     let drained : PlainView = drained_view plain in

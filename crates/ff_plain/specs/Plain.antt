@@ -51,7 +51,7 @@ abbrev pub drained_view : PlainView → PlainView
 drained_view plain = record { pages = pages_after plain.post plain.pages; post = None }
 
 -- each page has its size, and the post is to bytes of a line of one of them
-pub record IsPlain (plain : PlainView) : Type 0 where
+pub record IsPlainSound (plain : PlainView) : Type 0 where
   pub sizes : (page : ℕ) → length (page_at plain.pages page).bytes ≡ PAGE_BYTES
   pub posts : All IsPost (option_to_list plain.post)
   pub waiting : (page : ℕ) → waits_in (option_to_list plain.post) page ≡ true

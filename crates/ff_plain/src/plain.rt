@@ -2,7 +2,7 @@
 ghost use Rattle.std.specs.Prelude.{◌≡◌, ◌<◌, ◌≤◌, ◌+◌, IfOk, length, slice_set};
 ghost use Rattle.ff_base.specs.declared.numbers.TheConstants.{PAGE_LINES};
 ghost use Rattle.ff_lines.specs.BlankLine.{line_or_blank};
-ghost use Rattle.ff_plain.specs.Plain.{after_post, drained_view, fresh_page, fresh_view, page_at, pinned_page, state_of, written_page, IsPlain};
+ghost use Rattle.ff_plain.specs.Plain.{after_post, drained_view, fresh_page, fresh_view, page_at, pinned_page, state_of, written_page, IsPlainSound};
 
 use ff_base::{LINE_BYTES, NoMemory, PageBuf, PageNo};
 use ff_lines::{LineDevice, Post, Work, overlay_page};
@@ -103,7 +103,7 @@ impl Plain {
 
     #[tactic(auto, using(crate::proofs::PlainDevice::post_within, crate::proofs::PlainDevice::drained_pages))]
     fn drain(&mut self)
-        ensures known { IsPlain self.old }
+        ensures known { IsPlainSound self.old }
         ensures drained { self.new ≡ drained_view self.old }
     {
         if let Some(post) = self.post.take() {
