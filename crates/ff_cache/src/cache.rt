@@ -67,7 +67,7 @@ fn first_empty(slots: &[Slot], from: u32, to: u32) -> Option<u32>
 }
 
 impl Cache {
-    /// What every cache keeps, for a caller's proof. It does nothing.
+    /// What every cache keeps. For the prover alone.
     pub fn known(&self)
         ensures { IsCacheSound self.now }
     {

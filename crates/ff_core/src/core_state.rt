@@ -41,7 +41,7 @@ pub struct Room {
 }
 
 impl Room {
-    // Its numbers fit their types.
+    // Its numbers fit their types. For the prover alone.
     fn known(self)
         ensures calls { self.calls < 2 ^ 32 }
         ensures turns { self.turns < 2 ^ 32 }

@@ -59,7 +59,7 @@ impl Frames {
         })
     }
 
-    /// What all frames keep, for a caller's proof. It does nothing.
+    /// What all frames keep. For the prover alone.
     pub fn known(&self)
         ensures { AreFramesSound self.now }
     {

@@ -47,7 +47,7 @@ impl Memory {
         }
     }
 
-    /// What the parts of every memory keep, for a caller's proof. It does nothing.
+    /// What the parts of every memory keep. For the prover alone.
     pub fn known(&self)
         ensures { IsMemorySound self.now }
     {

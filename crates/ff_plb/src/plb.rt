@@ -104,7 +104,7 @@ impl Plb {
         Ok(Plb { slots })
     }
 
-    /// What every buffer keeps, for a caller's proof. It does nothing.
+    /// What every buffer keeps. For the prover alone.
     pub fn known(&self)
         ensures { ArePagesApart self.now }
     {

@@ -58,7 +58,7 @@ impl<T: Tune> Policy<T> {
         })
     }
 
-    /// What every policy keeps, for a caller's proof. It does nothing.
+    /// What every policy keeps. For the prover alone.
     pub fn known(&self)
         ensures { IsPolicySound self.now }
     {

@@ -79,7 +79,7 @@ impl Table {
         })
     }
 
-    /// What every table keeps, for a caller's proof. It does nothing.
+    /// What every table keeps. For the prover alone.
     pub fn known(&self)
         ensures { IsTableSound self.now }
     {

@@ -49,7 +49,7 @@ impl<F: Flash, T: Tune, E: Pick> Hierarchy<F, T, E> {
         Progress::Did(self.memory.advance(&mut self.device, slot))
     }
 
-    // What every device of lines keeps.
+    // What every device of lines keeps. For the prover alone.
     fn lines_known(&self)
         ensures { IsDevice (lines_under self.now) }
     {

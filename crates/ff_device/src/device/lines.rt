@@ -23,7 +23,7 @@ use ff_model::Piece;
 use ff_store::PageStore;
 
 impl<F: Flash> Device<F> {
-    // What every device of lines keeps.
+    // What every device of lines keeps. For the prover alone.
     fn lines_known(&self)
         ensures { IsDevice (lines_in self.now) }
     {
