@@ -1,5 +1,6 @@
 // What the events of a session did, counted.
 ghost use Rattle.std.specs.Prelude.{◌≡◌, ◌<◌, ◌+◌, ◌^◌};
+ghost use Rattle.ff_base.specs.Count.{HasCountLeft};
 ghost use Rattle.ff_core.specs.EventTally.{did_what, served_by, started_by};
 
 use crate::action::Action;
@@ -20,7 +21,7 @@ pub struct EventTally {
 impl EventTally {
     // A call was served by this side.
     pub(crate) fn serve(&mut self, side: Side)
-        requires { self.old.device + self.old.host < 2 ^ 63 }
+        requires { HasCountLeft (self.old.device + self.old.host) }
         ensures { self.new ≡ served_by side self.old }
     {
         match side {
@@ -32,8 +33,8 @@ impl EventTally {
 
     // An action did this.
     pub(crate) fn count(&mut self, action: Action, what: What)
-        requires { self.old.landed + self.old.dropped + self.old.promoted + self.old.retreated
-            < 2 ^ 63 }
+        requires { HasCountLeft (self.old.landed + self.old.dropped + self.old.promoted
+            + self.old.retreated) }
         ensures { self.new ≡ did_what action what self.old }
     {
         match what {
@@ -45,7 +46,7 @@ impl EventTally {
     }
 
     fn start(&mut self, action: Action)
-        requires { self.old.promoted + self.old.retreated < 2 ^ 63 }
+        requires { HasCountLeft (self.old.promoted + self.old.retreated) }
         ensures { self.new ≡ started_by action self.old }
     {
         match action {

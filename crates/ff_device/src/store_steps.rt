@@ -1,5 +1,6 @@
 // The steps of the store, as the device sees them.
 ghost use Rattle.std.specs.Prelude.{◌≡◌, ◌<◌, ◌≤◌, ◌^◌, OnOk, IsSome, None, false, length};
+ghost use Rattle.ff_base.specs.Count.{HasCountLeft};
 ghost use Rattle.ff_flash.specs.Injected.{stop_of};
 ghost use Rattle.ff_lines.specs.PageSets.{count_below, with_page};
 ghost use Rattle.ff_map.specs.PageMap.{IsPageMapSound};
@@ -30,7 +31,7 @@ pub fn fetch<F: Flash>(
     page: PageNo,
     into: &mut PageBuf,
 ) -> Result<(), FlashStop>
-    requires used { (seen_of store.old).used < 2 ^ 63 }
+    requires used { HasCountLeft (seen_of store.old).used }
     ensures bytes { OnOk result (into.new ≡ stored_bytes (seen_of store.old) page.0) }
     ensures pages { (seen_of store.new).pages ≡ (seen_of store.old).pages }
     ensures pending { (seen_of store.new).pending ≡ (seen_of store.old).pending }
@@ -51,7 +52,7 @@ pub fn flush_step<F: Flash>(
     requires idle { (seen_of store.old).pending ≡ None }
     requires room { count_below (with_page page.0 (is_stored (seen_of store.old)))
         (length (seen_of store.old).pages) ≤ (seen_of store.old).capacity }
-    requires used { (seen_of store.old).used < 2 ^ 63 }
+    requires used { HasCountLeft (seen_of store.old).used }
     ensures step { MakesFlushStep page.0 from.now result (seen_of store.old) (seen_of store.new) }
     ensures pages { (seen_of store.new).pages ≡ (seen_of store.old).pages }
     ensures calls { CallsOnce store.old (stop_of result) store.new }
@@ -63,7 +64,7 @@ pub fn flush_step<F: Flash>(
 #[tactic(auto, using(crate::proofs::SeenSteps::pending_is, crate::proofs::SeenSeals::sealed_seen))]
 pub fn seal_step<F: Flash>(store: &mut PageStore<F>) -> Result<FlushStep, FlashStop>
     requires pending { IsSome (seen_of store.old).pending }
-    requires used { (seen_of store.old).used < 2 ^ 63 }
+    requires used { HasCountLeft (seen_of store.old).used }
     ensures step { SealsFlush result (seen_of store.old) (seen_of store.new) }
     ensures calls { CallsOnce store.old (stop_of result) store.new }
 {

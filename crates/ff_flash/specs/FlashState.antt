@@ -1,5 +1,6 @@
 -- What a contract sees of a flash, and what all operations have in common.
 use Rattle.std.specs.Prelude.{ℕ, ◌+◌, ◌*◌, ◌<◌, ◌≤◌, ◌^◌, ◌≡◌, ◌↔◌, Bool, true, false, not, if◌then◌else◌, List, length, Option, Some, None, IsSome, IfSome}
+use Rattle.ff_base.specs.Count.{HasCountLeft}
 use Rattle.ff_flash.specs.Cells.{Cell}
 use Rattle.ff_flash.specs.Plans.{Planned, due_stop}
 use Rattle.ff_flash.specs.declared.flash.FlashStop.{FlashStop}
@@ -34,7 +35,7 @@ pub record IsFlashSound (flash : FlashState) : Type 0 where
 
 -- an operation can still be counted
 abbrev pub HasOperationsLeft : FlashState → Type 0
-HasOperationsLeft flash = flash.operations < 2 ^ 63
+HasOperationsLeft flash = HasCountLeft flash.operations
 
 -- what no operation changes
 pub record SameFlash (old new : FlashState) : Type 0 where

@@ -1,5 +1,6 @@
 // The injector of faults: which operations of a simulated flash fail or are cut, and whether its power is on.
 ghost use Rattle.std.specs.Prelude.{◌≡◌, ◌<◌, ◌^◌, ◌+◌, IfOk, IsTrue, length, if◌then◌else◌, is_some};
+ghost use Rattle.ff_base.specs.Count.{HasCountLeft};
 ghost use Rattle.ff_flash.specs.Injector.{arrive_of, is_powered, power_after};
 ghost use Rattle.ff_flash.specs.Plans.{IsPlan, RisesFrom, cut_at, cut_injected, cut_numbers, is_listed, listed_count, planned_of};
 
@@ -71,7 +72,7 @@ impl Injector {
 
     /// Says how an operation goes that is made now, and counts it where the power is on.
     pub fn next(&mut self) -> Injected
-        requires { self.old.operations < 2 ^ 63 }
+        requires { HasCountLeft self.old.operations }
         ensures injected { result ≡ next_injected self.old }
         ensures after { self.new ≡ injector_after self.old }
     {
@@ -151,7 +152,7 @@ fn is_on(power: Power) -> bool
 fn is_next(numbers: &[u64], passed: usize, before: u64) -> bool
     requires rises { RisesFrom 1 numbers.now }
     requires passed { passed ≡ listed_count before numbers.now }
-    requires life { before < 2 ^ 63 }
+    requires life { HasCountLeft before }
     ensures listed { result ≡ is_listed (before + 1) numbers.now }
     ensures room { IsTrue result → passed < length numbers.now }
 {
@@ -161,7 +162,7 @@ fn is_next(numbers: &[u64], passed: usize, before: u64) -> bool
 fn next_cut(cuts: &[CutAt], passed: usize, before: u64) -> Option<CutAt>
     requires rises { RisesFrom 1 (cut_numbers cuts.now) }
     requires passed { passed ≡ listed_count before (cut_numbers cuts.now) }
-    requires life { before < 2 ^ 63 }
+    requires life { HasCountLeft before }
     ensures cut { result ≡ cut_at (before + 1) cuts.now }
     ensures room { IsTrue (is_some result) → passed < length cuts.now }
 {

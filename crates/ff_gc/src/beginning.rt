@@ -1,5 +1,6 @@
 // How a collection begins.
 ghost use Rattle.std.specs.Prelude.{◌≡◌, ◌<◌, ◌^◌};
+ghost use Rattle.ff_base.specs.Count.{HasCountLeft};
 ghost use Rattle.ff_space.specs.BlockTable.{IsInState};
 ghost use Rattle.ff_space.specs.Choices.{IsLeast, IsVictimBlock};
 ghost use Rattle.ff_space.specs.declared.block.BlockState.TheVariants.{Erased};
@@ -30,7 +31,7 @@ impl Collector {
         requires ready { IsCollectorReady
             (world_of self.old (F.state flash.old) space.old map.old counts.old) }
         requires life { HasOperationsLeft (F.state flash.old) }
-        requires counted { total_of counts.old < 2 ^ 63 }
+        requires counted { HasCountLeft (total_of counts.old) }
         requires phase { self.old.phase ≡ Idle }
         ensures { Begins (world_of self.old (F.state flash.old) space.old map.old counts.old) result
             (world_of self.new (F.state flash.new) space.new map.new counts.new) }
@@ -52,7 +53,7 @@ impl Collector {
         requires ready { IsCollectorReady
             (world_of self.old (F.state flash.old) space.old map.old counts.old) }
         requires life { HasOperationsLeft (F.state flash.old) }
-        requires counted { total_of counts.old < 2 ^ 63 }
+        requires counted { HasCountLeft (total_of counts.old) }
         requires phase { self.old.phase ≡ Idle }
         requires victim { IsVictimBlock space.old.per_block space.old.blocks victim.0 }
         ensures { Begins (world_of self.old (F.state flash.old) space.old map.old counts.old) result

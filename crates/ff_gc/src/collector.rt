@@ -1,5 +1,6 @@
 // The collector, and what it does at each step.
 ghost use Rattle.std.specs.Prelude.{◌≡◌, ◌<◌, ◌^◌, true, false, [], IfOk, Ok, Err};
+ghost use Rattle.ff_base.specs.Count.{HasCountLeft};
 ghost use Rattle.ff_flash.specs.declared.flash.FlashStop.TheVariants.{Off};
 ghost use Rattle.ff_flash.specs.FlashState.{HasOperationsLeft};
 ghost use Rattle.ff_gc.specs.Collector.{is_busy, mounted_phase, new_collector};
@@ -98,7 +99,7 @@ impl Collector {
             → IsCollectorReady
             (world_of self.old (F.state flash.old) space.old map.old counts.old) }
         requires life { HasOperationsLeft (F.state flash.old) }
-        requires counted { total_of counts.old < 2 ^ 63 }
+        requires counted { HasCountLeft (total_of counts.old) }
         ensures off { (F.state flash.old).on ≡ false → (result ≡ Err Off)
             × (world_of self.new (F.state flash.new) space.new map.new counts.new
             ≡ world_of self.old (F.state flash.old) space.old map.old counts.old) }
@@ -126,7 +127,7 @@ impl Collector {
         requires ready { IsCollectorReady
             (world_of self.old (F.state flash.old) space.old map.old counts.old) }
         requires life { HasOperationsLeft (F.state flash.old) }
-        requires counted { total_of counts.old < 2 ^ 63 }
+        requires counted { HasCountLeft (total_of counts.old) }
         ensures { IsStep (world_of self.old (F.state flash.old) space.old map.old counts.old) result
             (world_of self.new (F.state flash.new) space.new map.new counts.new) }
     {

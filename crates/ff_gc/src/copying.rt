@@ -1,5 +1,6 @@
 // How the pages of a victim are copied.
 ghost use Rattle.std.specs.Prelude.{◌≡◌, ◌+◌, ◌*◌, ◌<◌, ◌^◌, length};
+ghost use Rattle.ff_base.specs.Count.{HasCountLeft};
 ghost use Rattle.ff_flash.specs.Cells.{IsClosed, IsSealed, cell_at, erased};
 ghost use Rattle.ff_space.specs.Blocks.{CanAdvance};
 ghost use Rattle.ff_space.specs.BlockTable.{IsInRange, block_at};
@@ -31,7 +32,7 @@ impl Collector {
         requires ready { IsCollectorReady
             (world_of self.old (F.state flash.old) space.old map.old counts.old) }
         requires life { HasOperationsLeft (F.state flash.old) }
-        requires counted { total_of counts.old < 2 ^ 63 }
+        requires counted { HasCountLeft (total_of counts.old) }
         requires phase { self.old.phase ≡ Reading job }
         ensures { ReadsNext (world_of self.old (F.state flash.old) space.old map.old counts.old)
             job result
@@ -53,7 +54,7 @@ impl Collector {
         original: Original,
     ) -> Result<GcStep, FlashStop>
         requires life { HasOperationsLeft (F.state flash.old) }
-        requires counted { total_of counts.old < 2 ^ 63 }
+        requires counted { HasCountLeft (total_of counts.old) }
         requires place { original.from.0 < length (F.state flash.old).cells }
         requires sealed { IsSealed (cell_at (F.state flash.old).cells original.from.0) }
         ensures { ReadsPage (world_of self.old (F.state flash.old) space.now map.now counts.old)
@@ -85,7 +86,7 @@ impl Collector {
         requires ready { IsCollectorReady
             (world_of self.old (F.state flash.old) space.old map.now counts.old) }
         requires life { HasOperationsLeft (F.state flash.old) }
-        requires counted { total_of counts.old < 2 ^ 63 }
+        requires counted { HasCountLeft (total_of counts.old) }
         requires phase { self.old.phase ≡ Programming job original }
         ensures { ProgramsNext (world_of self.old (F.state flash.old) space.old map.now counts.old)
             job original result
@@ -113,7 +114,7 @@ impl Collector {
         at: Ppn,
     ) -> Result<GcStep, FlashStop>
         requires life { HasOperationsLeft (F.state flash.old) }
-        requires counted { total_of counts.old < 2 ^ 63 }
+        requires counted { HasCountLeft (total_of counts.old) }
         requires block { IsInRange space.old job.into.0 }
         requires can { CanAdvance space.old.per_block (block_at space.old job.into.0) }
         requires at { at.0 ≡ next_place self.old.per_block space.old job }
@@ -151,7 +152,7 @@ impl Collector {
         at: Ppn,
     ) -> Result<GcStep, FlashStop>
         requires life { HasOperationsLeft (F.state flash.old) }
-        requires counted { total_of counts.old < 2 ^ 63 }
+        requires counted { HasCountLeft (total_of counts.old) }
         requires place { at.0 < length (F.state flash.old).cells }
         requires closed { IsClosed (cell_at (F.state flash.old).cells at.0) }
         requires room { length self.old.moves < self.old.per_block }

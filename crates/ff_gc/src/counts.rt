@@ -1,5 +1,6 @@
 // Counts of flash operations by kind.
 ghost use Rattle.std.specs.Prelude.{◌≡◌, ◌<◌, ◌^◌};
+ghost use Rattle.ff_base.specs.Count.{HasCountLeft};
 ghost use Rattle.ff_gc.specs.Counts.{begun, no_counts, total_of};
 
 /// A kind of flash operation that a store makes.
@@ -34,7 +35,7 @@ impl Counts {
 
     /// Counts one more.
     pub fn begin(&mut self, kind: OperationKind)
-        requires { total_of self.old < 2 ^ 63 }
+        requires { HasCountLeft (total_of self.old) }
         ensures { self.new ≡ begun kind self.old }
     {
         match kind {

@@ -1,5 +1,6 @@
 // How a collection ends.
 ghost use Rattle.std.specs.Prelude.{◌≡◌, ◌<◌, ◌^◌, length};
+ghost use Rattle.ff_base.specs.Count.{HasCountLeft};
 ghost use Rattle.ff_space.specs.BlockTable.{CanEnd, IsInState};
 ghost use Rattle.ff_space.specs.declared.block.BlockState.TheVariants.{Waiting};
 ghost use Rattle.ff_map.specs.PageMap.{CanSwitch};
@@ -52,7 +53,7 @@ impl Collector {
         ends: GcStep,
     ) -> Result<GcStep, FlashStop>
         requires life { HasOperationsLeft (F.state flash.old) }
-        requires counted { total_of counts.old < 2 ^ 63 }
+        requires counted { HasCountLeft (total_of counts.old) }
         requires waits { IsInState space.old.blocks Waiting block.0 }
         requires size { (F.state flash.old).blocks ≡ length space.old.blocks }
         ensures { ErasesBlock (world_of self.old (F.state flash.old) space.old map.now counts.old)

@@ -1,5 +1,6 @@
 // What the memory asks of a device of lines.
 ghost use Rattle.std.specs.Prelude.{◌≡◌, ◌<◌, ◌≤◌, ◌+◌, ◌^◌, length, true, false};
+ghost use Rattle.ff_base.specs.Count.{HasCountLeft};
 ghost use Rattle.ff_base.specs.declared.numbers.TheConstants.{PAGE_LINES};
 ghost use Rattle.ff_lines.specs.DeviceState.{DeviceState, HasRoom, IsDevice, IsDrained, IsPinned, IsPosted, line_at};
 ghost use Rattle.ff_lines.specs.Works.{IsIdle, KeepsLines, Works};
@@ -72,7 +73,7 @@ pub trait LineDevice {
     /// Makes one step towards the page's being resident. With the power off it does nothing.
     fn work(&mut self, page: PageNo) -> Work
         requires page { page.0 < (state self.old).pages }
-        requires used { (state self.old).used < 2 ^ 63 }
+        requires used { HasCountLeft (state self.old).used }
         ensures answer { Works page.0 result (state self.old) (state self.new) }
         ensures kept { KeepsLines (state self.old) (state self.new) }
         ensures idle { IsIdle result → self.new ≡ self.old }

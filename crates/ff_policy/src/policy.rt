@@ -1,5 +1,6 @@
 // The policy: which pages are hot, and what a promotion costs.
 ghost use Rattle.std.specs.Prelude.{◌≡◌, ◌+◌, ◌<◌, ◌↔◌, ◌^◌, IfOk, IfErr, IsTrue, length};
+ghost use Rattle.ff_base.specs.Count.{HasCountLeft};
 
 use crate::counters::Counters;
 use crate::tuner::{Tune, Tuner};
@@ -69,7 +70,7 @@ impl<T: Tune> Policy<T> {
     /// `STEP_ACCESSES` of these.
     pub fn device_access(&mut self, page: PageNo)
         requires page { page.0 < length self.old.counters }
-        requires few { self.old.accesses < 2 ^ 63 }
+        requires few { HasCountLeft self.old.accesses }
         ensures { StepsWhenDue T.answers (counted page.0 self.old) self.new }
     {
         self.counters.raise(page);
@@ -85,7 +86,7 @@ impl<T: Tune> Policy<T> {
 
     /// A frame served an access.
     pub fn host_access(&mut self)
-        requires { self.old.hits < 2 ^ 63 }
+        requires { HasCountLeft self.old.hits }
         ensures { self.new ≡ record self.old { hits = self.old.hits + 1 } }
     {
         self.hits += 1;

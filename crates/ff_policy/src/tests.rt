@@ -1,5 +1,6 @@
 // The program's rule for the threshold, on a policy of two pages.
 ghost use Rattle.std.specs.Prelude.{◌≡◌, ◌+◌, ◌<◌, ◌≤◌, ◌^◌, IfOk, length};
+ghost use Rattle.ff_base.specs.Count.{HasCountLeft};
 
 use super::*;
 use ff_base::PageNo;
@@ -40,7 +41,7 @@ fn policy(alloc: Global) -> Result<Policy<ByHits>, Fail>
 // So many accesses to page 0 that the device serves.
 fn access_page_0(policy: &mut Policy<ByHits>, count: u64)
     requires page { 0 < length policy.old.counters }
-    requires few { policy.old.accesses + count < 2 ^ 63 }
+    requires few { HasCountLeft (policy.old.accesses + count) }
     ensures pages { length policy.new.counters ≡ length policy.old.counters }
     ensures accesses { policy.new.accesses ≡ policy.old.accesses + count }
 {
@@ -51,7 +52,7 @@ fn access_page_0(policy: &mut Policy<ByHits>, count: u64)
 
 // So many accesses that a frame serves.
 fn access_a_frame(policy: &mut Policy<ByHits>, count: u64)
-    requires { policy.old.hits + count < 2 ^ 63 }
+    requires { HasCountLeft (policy.old.hits + count) }
     ensures pages { length policy.new.counters ≡ length policy.old.counters }
     ensures accesses { policy.new.accesses ≡ policy.old.accesses }
 {

@@ -1,5 +1,6 @@
 // Calls that are asked of the memory, and what an access that was served teaches the policy.
 ghost use Rattle.std.specs.Prelude.{◌≡◌, ◌<◌, ◌^◌, IsTrue, length};
+ghost use Rattle.ff_base.specs.Count.{HasCountLeft};
 ghost use Rattle.ff_memory.specs.Located.{IsLocated};
 ghost use Rattle.ff_model.specs.Spans.{is_in_range};
 ghost use Rattle.ff_core.specs.Serving.{IsAccess, PolicyAfter};
@@ -29,8 +30,8 @@ impl<F: Flash, T: Tune, E: Pick> Hierarchy<F, T, E> {
     // An access to the page was served by this side.
     pub(crate) fn count_access(&mut self, side: Side, page: PageNo)
         requires page { page.0 < length self.old.policy.counters }
-        requires accesses { self.old.policy.accesses < 2 ^ 63 }
-        requires hits { self.old.policy.hits < 2 ^ 63 }
+        requires accesses { HasCountLeft self.old.policy.accesses }
+        requires hits { HasCountLeft self.old.policy.hits }
         ensures policy { PolicyAfter side page.0 T.answers self.old.policy self.new.policy }
         ensures rest { self.new ≡ record self.old { policy = self.new.policy } }
     {

@@ -1,6 +1,6 @@
 // The events of calls.
 ghost use Rattle.std.specs.Prelude.{◌≡◌, ◌<◌, ◌≤◌, ◌+◌, ◌^◌, None, true, length};
-ghost use Rattle.ff_base.specs.Count.{last_event};
+ghost use Rattle.ff_base.specs.Count.{last_event, HasCountLeft};
 ghost use Rattle.ff_core.specs.Core.{spare_calls};
 ghost use Rattle.ff_core.specs.CoreSound.{IsCoreSound};
 ghost use Rattle.ff_core.specs.Hierarchy.{flash_under};
@@ -100,9 +100,9 @@ impl<F: Flash, T: Tune, E: Pick> State<F, T, E> {
         requires spare { 0 < spare_calls self.old }
         requires time { self.old.events ≤ last_event }
         requires page { page_asked op.now < length self.old.hierarchy.policy.counters }
-        requires accesses { self.old.hierarchy.policy.accesses < 2 ^ 63 }
-        requires hits { self.old.hierarchy.policy.hits < 2 ^ 63 }
-        requires few { self.old.tally.device + self.old.tally.host < 2 ^ 63 }
+        requires accesses { HasCountLeft self.old.hierarchy.policy.accesses }
+        requires hits { HasCountLeft self.old.hierarchy.policy.hits }
+        requires few { HasCountLeft (self.old.tally.device + self.old.tally.host) }
         ensures turn { result ≡ Served reply }
         ensures policy { PolicyAfter side (page_asked op.now) T.answers self.old.hierarchy.policy
             self.new.hierarchy.policy }

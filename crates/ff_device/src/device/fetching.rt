@@ -1,5 +1,6 @@
 // A page that is fetched into a slot.
 ghost use Rattle.std.specs.Prelude.{◌≡◌, ◌<◌, ◌^◌, None, true, false, length};
+ghost use Rattle.ff_base.specs.Count.{HasCountLeft};
 ghost use Rattle.ff_cache.specs.Cache.{IsInSet};
 ghost use Rattle.ff_cache.specs.Slots.{held, cache_slot_at};
 ghost use Rattle.ff_device.specs.StoreState.{seen_of};
@@ -18,7 +19,7 @@ use ff_lines::Work;
 impl<F: Flash> Device<F> {
     pub(super) fn fetch_into(&mut self, page: PageNo, slot: u32) -> Work
         requires page { page.0 < length (seen_of self.old.store).pages }
-        requires used { (seen_of self.old.store).used < 2 ^ 63 }
+        requires used { HasCountLeft (seen_of self.old.store).used }
         requires idle { (seen_of self.old.store).pending ≡ None }
         requires absent { held self.old.cache.slots page.0 ≡ None }
         requires place { IsInSet self.old.cache page.0 slot }

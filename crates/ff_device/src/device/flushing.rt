@@ -1,5 +1,6 @@
 // A dirty page that is flushed, and a flush that is sealed.
 ghost use Rattle.std.specs.Prelude.{◌≡◌, ◌<◌, ◌^◌, None, Some, IsSome, true, length};
+ghost use Rattle.ff_base.specs.Count.{HasCountLeft};
 ghost use Rattle.ff_cache.specs.Slots.{cache_slot_at};
 ghost use Rattle.ff_device.specs.StoreState.{seen_of};
 ghost use Rattle.ff_device.specs.Device.{parts_of};
@@ -19,7 +20,7 @@ impl<F: Flash> Device<F> {
     // Seals the flush that waits.
     pub(super) fn seal(&mut self) -> Work
         requires pending { IsSome (seen_of self.old.store).pending }
-        requires used { (seen_of self.old.store).used < 2 ^ 63 }
+        requires used { HasCountLeft (seen_of self.old.store).used }
         ensures row { SealRow result (parts_of self.old) (parts_of self.new) }
         ensures calls { CallsOnce self.old.store (stop_of_work result) self.new.store }
         ensures busy { IsIdle result → ⊥ }
@@ -41,7 +42,7 @@ impl<F: Flash> Device<F> {
     // Makes a step of the flush of a dirty slot, which holds the page.
     fn flush_page(&mut self, slot: u32, page: PageNo) -> Work
         requires idle { (seen_of self.old.store).pending ≡ None }
-        requires used { (seen_of self.old.store).used < 2 ^ 63 }
+        requires used { HasCountLeft (seen_of self.old.store).used }
         requires slot { slot < length self.old.cache.slots }
         requires held { (cache_slot_at self.old.cache.slots slot).page ≡ Some page }
         requires dirty { (cache_slot_at self.old.cache.slots slot).dirty ≡ true }
@@ -66,7 +67,7 @@ impl<F: Flash> Device<F> {
     // Makes a step of the flush of a dirty slot.
     pub(super) fn flush(&mut self, slot: u32) -> Work
         requires idle { (seen_of self.old.store).pending ≡ None }
-        requires used { (seen_of self.old.store).used < 2 ^ 63 }
+        requires used { HasCountLeft (seen_of self.old.store).used }
         requires slot { slot < length self.old.cache.slots }
         requires dirty { (cache_slot_at self.old.cache.slots slot).dirty ≡ true }
         ensures row { FlushRow slot result (parts_of self.old) (parts_of self.new) }

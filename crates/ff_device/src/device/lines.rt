@@ -1,6 +1,7 @@
 // The device as one of lines.
 ghost use Rattle.std.specs.Prelude.{◌≡◌, ◌≤◌, ◌<◌, ◌+◌, ◌++◌, ◌∷◌, ◌==◌, ◌^◌, [], true, false, length, drop, if◌then◌else◌};
 ghost use Rattle.std.specs.Option.{is_some};
+ghost use Rattle.ff_base.specs.Count.{HasCountLeft};
 ghost use Rattle.ff_base.specs.declared.numbers.TheConstants.{PAGE_LINES};
 ghost use Rattle.ff_device.specs.StoreState.{seen_of};
 ghost use Rattle.ff_device.specs.Device.{lines_in, own_of, parts_of};
@@ -148,7 +149,7 @@ impl<F: Flash> LineDevice for Device<F> {
     #[tactic(auto, using(crate::proofs::Keeping::still_keeps, crate::proofs::StoreCalls::still_calls, crate::proofs::Shapes::step_shape, crate::proofs::Shapes::same_shape))]
     fn work(&mut self, page: PageNo) -> Work
         requires page { page.0 < length (seen_of self.old.store).pages }
-        requires used { (seen_of self.old.store).used < 2 ^ 63 }
+        requires used { HasCountLeft (seen_of self.old.store).used }
         ensures answer { Works page.0 result (lines_in self.old) (lines_in self.new) }
         ensures kept { KeepsLines (lines_in self.old) (lines_in self.new) }
         ensures idle { IsIdle result → self.new ≡ self.old }

@@ -1,6 +1,7 @@
 // A step of work for a page: the first of its rows that applies.
 ghost use Rattle.std.specs.Prelude.{◌≡◌, ◌<◌, ◌^◌, None, true, false, length};
 ghost use Rattle.std.specs.Option.{is_some};
+ghost use Rattle.ff_base.specs.Count.{HasCountLeft};
 ghost use Rattle.ff_cache.specs.Cache.{is_full_set, IsCacheSound, IsInSet};
 ghost use Rattle.ff_cache.specs.Slots.{held, cache_slot_at};
 ghost use Rattle.ff_space.specs.BlockTable.{IsBlockTableSound};
@@ -41,7 +42,7 @@ impl<F: Flash> Device<F> {
     // Fetches the page in the place of the chosen slot, or flushes that first.
     fn clear(&mut self, page: PageNo, slot: u32) -> Work
         requires page { page.0 < length (seen_of self.old.store).pages }
-        requires used { (seen_of self.old.store).used < 2 ^ 63 }
+        requires used { HasCountLeft (seen_of self.old.store).used }
         requires idle { (seen_of self.old.store).pending ≡ None }
         requires absent { held self.old.cache.slots page.0 ≡ None }
         requires place { IsInSet self.old.cache page.0 slot }
@@ -65,7 +66,7 @@ impl<F: Flash> Device<F> {
     #[tactic(auto, using(crate::proofs::Working::raised_step, crate::proofs::Working::chosen_place, crate::proofs::Working::chosen_goes))]
     fn replace(&mut self, page: PageNo) -> Work
         requires page { page.0 < length (seen_of self.old.store).pages }
-        requires used { (seen_of self.old.store).used < 2 ^ 63 }
+        requires used { HasCountLeft (seen_of self.old.store).used }
         requires idle { (seen_of self.old.store).pending ≡ None }
         requires absent { held self.old.cache.slots page.0 ≡ None }
         requires full { is_full_set self.old.cache page.0 ≡ true }
@@ -84,7 +85,7 @@ impl<F: Flash> Device<F> {
     #[tactic(auto, using(crate::proofs::Working::empty_goes))]
     fn fill(&mut self, page: PageNo) -> Work
         requires page { page.0 < length (seen_of self.old.store).pages }
-        requires used { (seen_of self.old.store).used < 2 ^ 63 }
+        requires used { HasCountLeft (seen_of self.old.store).used }
         requires idle { (seen_of self.old.store).pending ≡ None }
         requires absent { held self.old.cache.slots page.0 ≡ None }
         ensures row { IsWorkStep page.0 (parts_of self.old) result (parts_of self.new) }
@@ -114,7 +115,7 @@ impl<F: Flash> Device<F> {
     #[tactic(auto, using(crate::proofs::Working::pending_none))]
     fn step(&mut self, page: PageNo) -> Work
         requires page { page.0 < length (seen_of self.old.store).pages }
-        requires used { (seen_of self.old.store).used < 2 ^ 63 }
+        requires used { HasCountLeft (seen_of self.old.store).used }
         requires absent { held self.old.cache.slots page.0 ≡ None }
         ensures row { IsWorkStep page.0 (parts_of self.old) result (parts_of self.new) }
         ensures calls { CallsOnce self.old.store (stop_of_work result) self.new.store }
@@ -143,7 +144,7 @@ impl<F: Flash> Device<F> {
     #[tactic(auto, using(crate::proofs::Working::absent_of))]
     pub(super) fn work_for(&mut self, page: PageNo) -> Work
         requires page { page.0 < length (seen_of self.old.store).pages }
-        requires used { (seen_of self.old.store).used < 2 ^ 63 }
+        requires used { HasCountLeft (seen_of self.old.store).used }
         requires absent { (lines_in self.old).resident page.0 ≡ false }
         requires on { (seen_of self.old.store).on ≡ true }
         ensures row { IsWorkStep page.0 (parts_of self.old) result (parts_of self.new) }
