@@ -1,5 +1,5 @@
 -- What a contract sees of a flash, and what all operations have in common.
-use Rattle.std.specs.Prelude.{ℕ, ◌+◌, ◌*◌, ◌<◌, ◌≤◌, ◌^◌, ◌≡◌, ◌↔◌, Bool, true, false, not, if◌then◌else◌, List, length, Option, Some, None, IsSome, IfSome}
+use Rattle.std.specs.Prelude.{ℕ, ◌+◌, ◌*◌, ◌≤◌, ◌≡◌, ◌↔◌, Bool, true, false, not, if◌then◌else◌, List, length, Option, Some, None, IsSome, IfSome}
 use Rattle.ff_base.specs.Count.{HasCountLeft}
 use Rattle.ff_flash.specs.Cells.{Cell}
 use Rattle.ff_flash.specs.Plans.{Planned, due_stop}

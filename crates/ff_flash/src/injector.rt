@@ -1,5 +1,5 @@
 // The injector of faults: which operations of a simulated flash fail or are cut, and whether its power is on.
-ghost use Rattle.std.specs.Prelude.{◌≡◌, ◌<◌, ◌^◌, ◌+◌, IfOk, IsTrue, length, if◌then◌else◌, is_some};
+ghost use Rattle.std.specs.Prelude.{◌≡◌, ◌<◌, ◌+◌, IfOk, IsTrue, length, if◌then◌else◌, is_some};
 ghost use Rattle.ff_base.specs.Count.{HasCountLeft};
 ghost use Rattle.ff_flash.specs.Injector.{arrive_of, is_powered, power_after};
 ghost use Rattle.ff_flash.specs.Plans.{IsPlan, RisesFrom, cut_at, cut_injected, cut_numbers, is_listed, listed_count, planned_of};

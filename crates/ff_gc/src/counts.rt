@@ -1,5 +1,5 @@
 // Counts of flash operations by kind.
-ghost use Rattle.std.specs.Prelude.{◌≡◌, ◌<◌, ◌^◌};
+ghost use Rattle.std.specs.Prelude.{◌≡◌};
 ghost use Rattle.ff_base.specs.Count.{HasCountLeft};
 ghost use Rattle.ff_gc.specs.Counts.{begun, no_counts, total_of};
 

@@ -31,11 +31,11 @@ impl Memory {
     ) -> Access
         requires span { IsTrue (is_span (length self.old.table.homes) at (length bytes.now)) }
         requires located { IsLocated self.old (D.state d.old) }
-        ensures store { IsStore (page_of at) (line_in_page at) (offset_in_line at) bytes.now position
-            self.old (D.state d.old) result self.new (D.state d.new) }
+        ensures store { IsStore (page_of at) (line_in_page at) (offset_in_line at) bytes.now
+            position self.old (D.state d.old) result self.new (D.state d.new) }
         ensures located { IsLocated self.new (D.state d.new) }
-        ensures lines { StoresBy result (page_of at) (line_in_page at) (offset_in_line at) bytes.now
-            self.old (D.state d.old) self.new (D.state d.new) }
+        ensures lines { StoresBy result (page_of at) (line_in_page at) (offset_in_line at)
+            bytes.now self.old (D.state d.old) self.new (D.state d.new) }
         ensures own { D.own d.new ≡ D.own d.old }
     {
         let at = Address::of(at);

@@ -1,5 +1,5 @@
 // The policy: which pages are hot, and what a promotion costs.
-ghost use Rattle.std.specs.Prelude.{◌≡◌, ◌+◌, ◌<◌, ◌↔◌, ◌^◌, IfOk, IfErr, IsTrue, length};
+ghost use Rattle.std.specs.Prelude.{◌≡◌, ◌+◌, ◌<◌, ◌↔◌, IfOk, IfErr, IsTrue, length};
 ghost use Rattle.ff_base.specs.Count.{HasCountLeft};
 
 use crate::counters::Counters;

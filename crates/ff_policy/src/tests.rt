@@ -1,5 +1,5 @@
 // The program's rule for the threshold, on a policy of two pages.
-ghost use Rattle.std.specs.Prelude.{◌≡◌, ◌+◌, ◌<◌, ◌≤◌, ◌^◌, IfOk, length};
+ghost use Rattle.std.specs.Prelude.{◌≡◌, ◌+◌, ◌<◌, ◌≤◌, IfOk, length};
 ghost use Rattle.ff_base.specs.Count.{HasCountLeft};
 
 use super::*;

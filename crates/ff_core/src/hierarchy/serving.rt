@@ -1,5 +1,5 @@
 // Calls that are asked of the memory, and what an access that was served teaches the policy.
-ghost use Rattle.std.specs.Prelude.{◌≡◌, ◌<◌, ◌^◌, IsTrue, length};
+ghost use Rattle.std.specs.Prelude.{◌≡◌, ◌<◌, IsTrue, length};
 ghost use Rattle.ff_base.specs.Count.{HasCountLeft};
 ghost use Rattle.ff_memory.specs.Located.{IsLocated};
 ghost use Rattle.ff_model.specs.Spans.{is_in_range};

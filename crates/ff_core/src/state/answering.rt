@@ -1,5 +1,5 @@
 // The events of calls.
-ghost use Rattle.std.specs.Prelude.{◌≡◌, ◌<◌, ◌≤◌, ◌+◌, ◌^◌, None, true, length};
+ghost use Rattle.std.specs.Prelude.{◌≡◌, ◌<◌, ◌≤◌, ◌+◌, None, true, length};
 ghost use Rattle.ff_base.specs.Count.{last_event, HasCountLeft};
 ghost use Rattle.ff_core.specs.Core.{spare_calls};
 ghost use Rattle.ff_core.specs.CoreSound.{IsCoreSound};

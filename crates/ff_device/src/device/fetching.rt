@@ -1,5 +1,5 @@
 // A page that is fetched into a slot.
-ghost use Rattle.std.specs.Prelude.{◌≡◌, ◌<◌, ◌^◌, None, true, false, length};
+ghost use Rattle.std.specs.Prelude.{◌≡◌, ◌<◌, None, true, false, length};
 ghost use Rattle.ff_base.specs.Count.{HasCountLeft};
 ghost use Rattle.ff_cache.specs.Cache.{IsInSet};
 ghost use Rattle.ff_cache.specs.Slots.{held, cache_slot_at};

@@ -1,5 +1,5 @@
 // A dirty page that is flushed, and a flush that is sealed.
-ghost use Rattle.std.specs.Prelude.{◌≡◌, ◌<◌, ◌^◌, None, Some, IsSome, true, length};
+ghost use Rattle.std.specs.Prelude.{◌≡◌, ◌<◌, None, Some, IsSome, true, length};
 ghost use Rattle.ff_base.specs.Count.{HasCountLeft};
 ghost use Rattle.ff_cache.specs.Slots.{cache_slot_at};
 ghost use Rattle.ff_device.specs.StoreState.{seen_of};

@@ -1,5 +1,5 @@
 // The device as one of lines.
-ghost use Rattle.std.specs.Prelude.{◌≡◌, ◌≤◌, ◌<◌, ◌+◌, ◌++◌, ◌∷◌, ◌==◌, ◌^◌, [], true, false, length, drop, if◌then◌else◌};
+ghost use Rattle.std.specs.Prelude.{◌≡◌, ◌≤◌, ◌<◌, ◌+◌, ◌++◌, ◌∷◌, ◌==◌, [], true, false, length, drop, if◌then◌else◌};
 ghost use Rattle.std.specs.Option.{is_some};
 ghost use Rattle.ff_base.specs.Count.{HasCountLeft};
 ghost use Rattle.ff_base.specs.declared.numbers.TheConstants.{PAGE_LINES};
@@ -80,7 +80,7 @@ impl<F: Flash> Device<F> {
 }
 
 impl<F: Flash> LineDevice for Device<F> {
-    ghost use Rattle.std.specs.Prelude.{◌≡◌, ◌≤◌, ◌<◌, ◌+◌, ◌++◌, ◌∷◌, ◌==◌, ◌^◌, [], true, false, length, drop, if◌then◌else◌};
+    ghost use Rattle.std.specs.Prelude.{◌≡◌, ◌≤◌, ◌<◌, ◌+◌, ◌++◌, ◌∷◌, ◌==◌, [], true, false, length, drop, if◌then◌else◌};
     ghost use Rattle.std.specs.Option.{is_some};
     ghost use Rattle.ff_device.specs.Device.{lines_in, own_of, parts_of};
 

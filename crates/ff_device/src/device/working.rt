@@ -1,5 +1,5 @@
 // A step of work for a page: the first of its rows that applies.
-ghost use Rattle.std.specs.Prelude.{◌≡◌, ◌<◌, ◌^◌, None, true, false, length};
+ghost use Rattle.std.specs.Prelude.{◌≡◌, ◌<◌, None, true, false, length};
 ghost use Rattle.std.specs.Option.{is_some};
 ghost use Rattle.ff_base.specs.Count.{HasCountLeft};
 ghost use Rattle.ff_cache.specs.Cache.{is_full_set, IsCacheSound, IsInSet};
