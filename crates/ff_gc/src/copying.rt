@@ -1,5 +1,5 @@
 // How the pages of a victim are copied.
-ghost use Rattle.std.specs.Prelude.{◌≡◌, ◌+◌, ◌*◌, ◌<◌, length};
+ghost use Rattle.std.specs.Prelude.{◌≡◌, ◌+◌, ◌*◌, ◌<◌, ◌^◌, length};
 ghost use Rattle.ff_base.specs.Count.{HasCountLeft};
 ghost use Rattle.ff_flash.specs.Cells.{IsClosed, IsSealed, cell_at, erased};
 ghost use Rattle.ff_space.specs.Blocks.{CanAdvance};
