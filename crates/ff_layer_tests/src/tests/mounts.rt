@@ -142,22 +142,22 @@ fn an_image_has_what_is_held(rt: HostRuntime) -> Result<(), Fail> {
 
 #[test]
 fn a_read_that_fails_or_is_cut_stops_an_image(rt: HostRuntime) -> Result<(), Fail> {
-    for number in [11, 12] {
-        let mut failing = parts_of(&rt, rt.alloc(), Fault::Fail(number - 1))?;
+    for made in [10, 11] {
+        let mut failing = parts_of(&rt, rt.alloc(), Fault::Fail(made))?;
         assert_eq!(rt;
             stop_of(&mut failing, rt.alloc()),
             Some(MountStop::Fault),
-            "at {number}"
+            "after {made}"
         );
-        assert_eq!(rt; failing.made(), (u64::from(number), true));
+        assert_eq!(rt; failing.made(), (u64::from(made) + 1, true));
         check_image(&rt, &mut failing, rt.alloc());
-        let mut cut = parts_of(&rt, rt.alloc(), Fault::Cut(number - 1, 1))?;
+        let mut cut = parts_of(&rt, rt.alloc(), Fault::Cut(made, 1))?;
         assert_eq!(rt;
             stop_of(&mut cut, rt.alloc()),
             Some(MountStop::Off),
-            "at {number}"
+            "after {made}"
         );
-        assert_eq!(rt; cut.made(), (u64::from(number), false));
+        assert_eq!(rt; cut.made(), (u64::from(made) + 1, false));
     }
     Ok(())
 }
