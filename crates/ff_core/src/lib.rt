@@ -12,8 +12,6 @@ mod next;
 mod resume;
 mod state;
 mod tally;
-#[cfg(test)]
-mod tests;
 mod turn;
 
 pub use account::Record;

@@ -5,8 +5,6 @@ mod image;
 mod mounting;
 mod page;
 mod stop;
-#[cfg(test)]
-mod tests;
 
 pub use image::{Mounted, image_of};
 pub use mounting::{MountBack, mount};

@@ -10,8 +10,6 @@ mod rows;
 mod running;
 mod session;
 mod stop;
-#[cfg(test)]
-mod tests;
 
 pub use chain::{MOST_SESSIONS, run};
 pub use session::Session;

@@ -12,6 +12,3 @@ mod writing;
 pub use pending::Pending;
 pub use remount::{StoreBack, StoreStop};
 pub use store::{FlushStep, PageStore};
-
-#[cfg(test)]
-mod tests;

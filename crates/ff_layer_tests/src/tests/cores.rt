@@ -1,0 +1,202 @@
+// Calls and background turns over a simulated flash, by their answers and counts.
+ghost use Rattle.std.specs.Prelude.{IfOk};
+ghost use Rattle.ff_base.specs.Geometry.{IsWithinLimits};
+
+mod rows;
+
+use super::plans::{Fault, USUAL, plan_of};
+use super::rules::{ByDirty, ByHits};
+use ff_base::{Caller, Geometry, PageNo};
+use ff_cache::Cache;
+use ff_core::{Back, Core, Driven, Room};
+use ff_evict::Picker;
+use ff_flash::{Flash, SimFlash};
+use ff_model::{Counts, Kind, Op, Piece, Reply};
+use ff_policy::Tuner;
+use rows::{LOSSES, ROWS, Step};
+use std::alloc::Global;
+use std::test::Fail;
+
+pub type TestCore = Core<SimFlash, ByHits, ByDirty>;
+
+const ROOM: Room = Room {
+    calls: 32,
+    turns: 256,
+};
+
+/// A geometry that is within its bounds.
+pub fn checked(geometry: Geometry) -> Result<Geometry, Fail>
+    ensures { IfOk result (λ checked. IsWithinLimits checked) }
+{
+    match geometry.check() {
+        Ok(()) => Ok(geometry),
+        Err(_) => Err("out of bounds")?,
+    }
+}
+
+pub fn core_of(alloc: Global, geometry: Geometry, fault: Fault) -> Result<TestCore, Fail> {
+    let geometry = checked(geometry)?;
+    let plan = plan_of(alloc, fault)?;
+    let flash = SimFlash::new(alloc, &geometry, plan)?;
+    let tuner = Tuner::new(1, 4, ByHits);
+    let picker = Picker::new(ByDirty);
+    match Core::fresh(alloc, flash, geometry, tuner, picker, ROOM) {
+        Ok(core) => Ok(core),
+        Err(_) => Err("no memory")?,
+    }
+}
+
+// Whether a step is answered so.
+fn is_answered(core: &mut TestCore, step: &Step) -> bool {
+    match step {
+        Step::Load(at, bytes) => load(core, *at, bytes),
+        Step::Store(at, bytes) => store(core, *at, bytes) == Some(Reply::Done),
+        Step::Full(at, bytes) => store(core, *at, bytes) == Some(Reply::Full),
+        Step::Fault(at, bytes) => store(core, *at, bytes) == Some(Reply::Fault),
+        Step::Mark(page) => {
+            let op = Op::Mark {
+                page: PageNo(*page),
+                from: 0,
+                count: 64,
+            };
+            call(core, &op) == Some(Reply::Done)
+        }
+        Step::Turns(kind, count, did) => turns(core, *kind, *count) == *did,
+    }
+}
+
+// Whether a load gives these bytes.
+fn load(core: &mut TestCore, at: u32, bytes: &[u8]) -> bool {
+    if bytes.len() > 64 {
+        return false;
+    }
+    let op = Op::Load {
+        at,
+        len: bytes.len() as u32,
+    };
+    call(core, &op) == Some(Reply::Bytes(Piece::from_slice(bytes)))
+}
+
+fn store(core: &mut TestCore, at: u32, bytes: &[u8]) -> Option<Reply> {
+    if bytes.len() > 64 {
+        return None;
+    }
+    let op = Op::Store {
+        at,
+        bytes: Piece::from_slice(bytes),
+    };
+    call(core, &op)
+}
+
+// The reply to a call of caller 0.
+fn call(core: &mut TestCore, op: &Op) -> Option<Reply> {
+    if core.spare_calls() == 0 {
+        return None;
+    }
+    match core.drive(Caller(0), 0, op) {
+        Driven::Served(reply) => Some(reply),
+        Driven::Off => None,
+    }
+}
+
+// Makes so many turns of a kind, and tells how many did something.
+fn turns(core: &mut TestCore, kind: Kind, count: u32) -> u32 {
+    let mut did: u32 = 0;
+    for _ in 0..count {
+        if core.spare_turns() == 0 {
+            return did;
+        }
+        let answer = match kind {
+            Kind::Promote => core.promote_turn(),
+            Kind::Evict => core.evict_turn(),
+            Kind::Collect => core.collect_turn(),
+            Kind::Drain => core.drain_turn(),
+        };
+        if let Back::Did(_) = answer {
+            did = did.saturating_add(1);
+        }
+    }
+    did
+}
+
+#[test]
+fn calls_and_turns_come_to_these_answers_and_counts(rt: HostRuntime) -> Result<(), Fail> {
+    for (at, row) in ROWS.iter().enumerate() {
+        let mut core = core_of(rt.alloc(), row.geometry, row.fault)?;
+        for step in row.steps {
+            assert!(rt; is_answered(&mut core, step), "row {at}");
+        }
+        assert_eq!(rt; core.counts(), row.counts, "row {at}");
+    }
+    Ok(())
+}
+
+#[test]
+fn a_session_ends_in_its_record(rt: HostRuntime) -> Result<(), Fail> {
+    let mut core = core_of(rt.alloc(), USUAL, Fault::Nothing)?;
+    assert_eq!(rt; (core.spare_calls(), core.spare_turns()), (32, 256));
+    assert_eq!(rt; call(&mut core, &Op::Verify), Some(Reply::Done));
+    assert_eq!(rt; turns(&mut core, Kind::Drain, 1), 0);
+    assert_eq!(rt;
+        (core.events(), core.history().len(), core.log().len()),
+        (1, 1, 1)
+    );
+    assert_eq!(rt; (core.floor(), *core.geometry()), (1, Geometry::default()));
+    let lost = core.power(4);
+    assert_eq!(rt; (lost.account.from_event(), lost.account.events()), (0, 1));
+    assert_eq!(rt; lost.account.counts(), &Counts::default());
+    assert!(rt;
+        lost.account
+            .log()
+            .get(0)
+            .is_some_and(|turn| turn.answer == Back::Idle)
+    );
+    Ok(())
+}
+
+// The first two bytes of page 0 in what the battery kept, and how many entries are kept.
+fn left_by(alloc: Global, core: TestCore, arrive: u32) -> Result<(u32, u8, u8), Fail> {
+    core.known();
+    let geometry = *core.geometry();
+    let lost = core.power(arrive);
+    let kept = lost.account.kept();
+    match Cache::from_nv(alloc, lost.nv, &geometry) {
+        Ok(parts) => match parts.cache.find(PageNo(0)) {
+            Some(slot) => {
+                let line = parts.cache.line(slot, 0);
+                Ok((kept, line[0], line[1]))
+            }
+            None => Ok((kept, 0, 0)),
+        },
+        Err(_) => Err("no memory")?,
+    }
+}
+
+#[test]
+fn a_loss_of_power_keeps_what_arrived_and_was_acknowledged(rt: HostRuntime) -> Result<(), Fail> {
+    for row in &LOSSES {
+        let mut core = core_of(rt.alloc(), USUAL, Fault::Nothing)?;
+        assert!(rt; is_answered(&mut core, &Step::Mark(0)));
+        assert!(rt; is_answered(&mut core, &Step::Store(0, &[0xaa])));
+        if row.verified {
+            assert_eq!(rt; call(&mut core, &Op::Verify), Some(Reply::Done));
+        }
+        assert!(rt; is_answered(&mut core, &Step::Store(1, &[0xbb])));
+        assert_eq!(rt; core.counts().device, 2);
+        assert_eq!(rt; left_by(rt.alloc(), core, row.arrive)?, row.left);
+    }
+    Ok(())
+}
+
+#[test]
+fn the_power_is_cut_before_an_event(rt: HostRuntime) -> Result<(), Fail> {
+    let mut core = core_of(rt.alloc(), USUAL, Fault::Nothing)?;
+    assert_eq!(rt; core.spare_calls(), 32);
+    let stopped = core.drive_until(Caller(0), 0, &Op::Load { at: 0, len: 1 }, Some(1));
+    assert_eq!(rt; stopped, Driven::Off);
+    assert_eq!(rt; (core.events(), core.history().len()), (1, 0));
+    assert!(rt; !core.flash().is_on());
+    core.cut_power();
+    assert!(rt; !core.flash().is_on());
+    Ok(())
+}

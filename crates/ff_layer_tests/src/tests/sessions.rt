@@ -1,0 +1,130 @@
+// A session over mounted parts that begins at the last event number, and a run of two sessions.
+ghost use Rattle.std.specs.Prelude.{◌≤◌, ◌^◌, IfSome};
+ghost use Rattle.ff_base.specs.Geometry.{IsWithinLimits};
+ghost use Rattle.ff_mount.specs.Sound.{AreSound};
+ghost use Rattle.ff_sessions.specs.Remounts.{HasRemounted};
+ghost use Rattle.ff_trace.specs.Within.{AreWithin};
+
+use super::cores::{TestCore, checked, core_of};
+use super::plans::{Fault, USUAL};
+use super::rules::{ByDirty, ByHits};
+use ff_base::{Caller, Geometry};
+use ff_cache::Nv;
+use ff_core::{Back, Core, Room, Turn};
+use ff_evict::Picker;
+use ff_flash::{Flash, Plan, SimFlash};
+use ff_model::{Image, Kind, Op, Reply};
+use ff_mount::{Mounted, image_of, mount};
+use ff_policy::Tuner;
+use ff_sessions::{Session, run};
+use ff_trace::Row;
+use std::alloc::Global;
+use std::test::Fail;
+
+const LAST_EVENT: u64 = 1 << 62;
+
+const VERIFY: Row = Row::Call {
+    caller: Caller(0),
+    op: Op::Verify,
+};
+
+const ROWS: [Row; 4] = [
+    VERIFY,
+    Row::Power { arrive: 0 },
+    Row::Turns {
+        kind: Kind::Promote,
+        count: 1,
+    },
+    VERIFY,
+];
+
+// Mounted parts, and the image of them.
+#[derive(Drop)]
+struct Remounted {
+    mounted: Mounted<SimFlash>,
+    image: Image,
+}
+
+fn remount(alloc: Global, nv: Nv, flash: SimFlash, geometry: &Geometry) -> Option<Remounted>
+    requires geometry { IsWithinLimits geometry.now }
+    requires sound { AreSound geometry.now nv flash }
+    requires life { flash.operations ≤ 2 ^ 61 }
+    ensures { IfSome result (λ r. HasRemounted geometry.now nv flash r.mounted.store
+        r.mounted.cache r.mounted.marks r.image) }
+{
+    match mount(alloc, nv, flash, geometry) {
+        Ok(mut mounted) => match image_of(alloc, &mut mounted, geometry) {
+            Ok(image) => Some(Remounted { mounted, image }),
+            Err(_) => None,
+        },
+        Err(_) => None,
+    }
+}
+
+// The session behind one that lost its power, from the last event number on.
+fn last(alloc: Global, core: TestCore) -> Result<TestCore, Fail> {
+    core.known();
+    let geometry = *core.geometry();
+    let lost = core.power(0);
+    if lost.flash.operation_count() > 1 << 61 {
+        Err("too many operations")?;
+    }
+    let Some(Remounted { mounted, image }) = remount(alloc, lost.nv, lost.flash, &geometry) else {
+        return Err("no mount")?;
+    };
+    let (tuner, picker) = (lost.tuner, lost.picker);
+    let room = Room { calls: 2, turns: 1 };
+    match Core::resume(
+        alloc, mounted, &image, geometry, tuner, picker, room, LAST_EVENT,
+    ) {
+        Ok(core) => Ok(core),
+        Err(_) => Err("no memory")?,
+    }
+}
+
+#[test]
+fn nothing_is_done_at_the_last_event_number(rt: HostRuntime) -> Result<(), Fail> {
+    let alloc = rt.alloc();
+    let mut core = last(alloc, core_of(alloc, USUAL, Fault::Nothing)?)?;
+    assert_eq!(rt; (core.spare_calls(), core.spare_turns()), (2, 1));
+    let load = Op::Load { at: 0, len: 8 };
+    assert_eq!(rt; core.turn(Caller(0), 0, &load), Turn::Served(Reply::Spent));
+    assert_eq!(rt; core.spare_turns(), 1);
+    assert_eq!(rt; core.promote_turn(), Back::Spent);
+    assert_eq!(rt; core.events(), LAST_EVENT);
+    Ok(())
+}
+
+fn sessions_of(alloc: Global, rows: &[Row]) -> Result<Vec<Session>, Fail>
+    requires { AreWithin 0 rows.now }
+{
+    let geometry = checked(USUAL)?;
+    let plan = Plan {
+        fail: Vec::new(alloc),
+        cuts: Vec::new(alloc),
+    };
+    let tuner = Tuner::new(1, 4, ByHits);
+    Ok(run(alloc, geometry, plan, tuner, Picker::new(ByDirty), rows)?)
+}
+
+// The number of a session's first event, how many events there were by its end, its answered calls and its turns.
+fn told(session: &Session) -> (u64, u64, u32, u32) {
+    let account = &session.account;
+    (
+        account.from_event(),
+        account.events(),
+        account.history().len(),
+        account.log().len(),
+    )
+}
+
+#[test]
+fn a_run_goes_on_behind_a_loss_of_power(rt: HostRuntime) -> Result<(), Fail> {
+    let sessions = sessions_of(rt.alloc(), &ROWS)?;
+    let told: [(u64, u64, u32, u32); 2] = match sessions.as_slice() {
+        [first, last] => [told(first), told(last)],
+        _ => panic!(rt; "two sessions"),
+    };
+    assert_eq!(rt; told, [(0, 1, 1, 0), (1, 2, 1, 1)]);
+    Ok(())
+}
