@@ -1,6 +1,6 @@
 -- What the record of a session keeps.
 use Rattle.std.proofs.Common.{◌≡◌, ◌≤◌, ◌+◌, ◌*◌, ℕ, length, subst, mul_comm, refl, arith}
-use Rattle.ff_model.specs.Legal.{IsLegal, Opening, next_event}
+use Rattle.ff_model.specs.Legal.{IsLegal, Opening, faults_after, next_event}
 use Rattle.ff_policy.specs.Policy.{IsPolicySound}
 use Rattle.ff_store.specs.PageStore.{IsStoreSound}
 use Rattle.ff_core.specs.Account.{IsAccountOf, start_of}
@@ -60,5 +60,6 @@ account_of core kept sound store policy =
           let erases = kinds.erases in
           omega arith;
       faults = omega arith;
+      met = subst (λ (o : Opening). faults_after o core.history.entries ≤ (flash_under core.hierarchy).faults) is sound.told.faults;
       told = λ tells. let all = counted.planned tells in omega arith;
     }

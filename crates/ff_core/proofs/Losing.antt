@@ -75,6 +75,7 @@ lost_account core kept sound store policy =
       paid = account.paid;
       operations = account.operations ∙ sym operations;
       faults = account.faults ∙ sym faults;
+      met = let met = account.met in omega (arith, met, faults);
       told = λ tells. account.told (rw plan at tells);
     }
 

@@ -1,6 +1,7 @@
 -- Over which mounted parts a session may begin.
 use Rattle.std.proofs.Common.{◌≡◌, ◌≤◌, ◌+◌, ◌^◌, ℕ, Bool, true, false, cond, List, [], ◌∷◌, length, Option, Some, sym, ap, ◌∙◌}
 use Rattle.std.proofs.lemmas.Option.{none-some, same_Some}
+use Rattle.ff_base.specs.Count.{last_event}
 use Rattle.ff_base.specs.declared.geometry.Geometry.{Geometry}
 use Rattle.ff_cache.specs.Cache.{CacheView}
 use Rattle.ff_cache.specs.Nv.{IsFromNv, NvWay, slot_of, slots_of}
@@ -31,7 +32,7 @@ mounted_unpinned sets ways kept cache from page slot is =
 -- a session may begin over what a mount makes
 pub resume_mounted : (g : Geometry) (s : PageStoreView) (cache : CacheView) (kept : List NvWay) (marks : List ℕ) (event : ℕ)
     → IsRemounted g s → IsFromNv g.sets g.ways kept cache → IsCacheOver g s cache → length marks ≡ g.pages
-    → s.world.flash.on ≡ true → s.world.flash.operations ≤ 2 ^ 62 + event → event ≤ 2 ^ 62 → CanResume g s cache marks event
+    → s.world.flash.on ≡ true → s.world.flash.operations ≤ 2 ^ 62 + event → event ≤ last_event → CanResume g s cache marks event
 resume_mounted g s cache kept marks event is from over marked on life not_past = record {
   over = over;
   none = ap (λ (x : PageStoreView). x.waits) is.store;
@@ -59,7 +60,7 @@ over-read g s cache n over = record {
 
 -- a session may also begin after the reads of an image, and at a later event number
 pub resume_read : (g : Geometry) (s : PageStoreView) (cache : CacheView) (marks : List ℕ) (from event n : ℕ)
-    → CanResume g s cache marks from → s.world.flash.operations + n ≤ 2 ^ 62 + event → event ≤ 2 ^ 62
+    → CanResume g s cache marks from → s.world.flash.operations + n ≤ 2 ^ 62 + event → event ≤ last_event
     → CanResume g (after_reads s n) cache marks event
 resume_read g s cache marks from event n can life not_past = record {
   over = over-read g s cache n can.over;

@@ -4,7 +4,7 @@ use Rattle.ff_base.specs.Count.{last_event}
 use Rattle.ff_base.specs.declared.geometry.Geometry.{Geometry}
 use Rattle.ff_flash.specs.FlashState.{FlashState}
 use Rattle.ff_model.specs.Image.{Content}
-use Rattle.ff_model.specs.Legal.{IsLegal, Opening, next_event, opening_of}
+use Rattle.ff_model.specs.Legal.{IsLegal, Opening, faults_after, next_event, opening_of}
 use Rattle.ff_model.specs.declared.counts.Counts.{Counts}
 use Rattle.ff_core.specs.Core.{CoreView, from_operations}
 use Rattle.ff_core.specs.CoreSound.{has_failed, has_fault, is_promotion, is_served_access}
@@ -33,8 +33,8 @@ abbrev pub operations_in : Counts → ℕ
 operations_in counts = counts.reads + counts.programs + counts.seals + counts.erases
 
 -- a session of this geometry, whose policy's threshold doesn't fall below the floor, began so and left this flash: its
--- history is that of a flat byte array, each promotion was paid for by device accesses, and the counts are what the
--- history, the log and the flash tell
+-- history is that of a flat byte array, each promotion was paid for by device accesses, the counts are what the history,
+-- the log and the flash tell, and the flash met each fault that an entry counts
 pub record IsAccountOf (geometry : Geometry) (floor : ℕ) (start : Start) (account : RecordView)
     (flash : FlashState) : Type 0 where
   pub geometry_is : account.geometry ≡ geometry
@@ -48,5 +48,6 @@ pub record IsAccountOf (geometry : Geometry) (floor : ℕ) (start : Start) (acco
   pub paid : account.counts.promoted * floor ≤ account.counts.device
   pub operations : start.operations + operations_in account.counts ≡ flash.operations
   pub faults : start.faults + account.counts.faults ≡ flash.faults
+  pub met : faults_after (opening_at geometry start) account.entries ≤ flash.faults
   pub told : IsSome flash.plan → account.counts.faults
       ≡ count_by has_fault account.entries + count_by has_failed account.turns

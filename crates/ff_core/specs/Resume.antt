@@ -1,5 +1,6 @@
 -- How a session begins over a mounted store and cache.
 use Rattle.std.specs.Prelude.{ℕ, ◌+◌, ◌≤◌, ◌≡◌, ◌^◌, [], false, true, Bool, List, None, Some, length, map, is_some}
+use Rattle.ff_base.specs.Count.{last_event}
 use Rattle.ff_base.specs.Geometry.{capacity_of}
 use Rattle.ff_base.specs.declared.geometry.Geometry.{Geometry}
 use Rattle.ff_cache.specs.Cache.{CacheView}
@@ -34,7 +35,7 @@ pub record CanResume (geometry : Geometry) (store : PageStoreView) (cache : Cach
   pub marked : length marks ≡ geometry.pages
   pub on : store.world.flash.on ≡ true
   pub life : store.world.flash.operations ≤ 2 ^ 62 + event
-  pub not_past : event ≤ 2 ^ 62
+  pub not_past : event ≤ last_event
 
 -- which pages an image holds
 abbrev pub pages_held : Content → List Bool

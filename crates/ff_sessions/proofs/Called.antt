@@ -17,8 +17,9 @@ use Rattle.ff_model.specs.declared.history.Entry.{Entry}
 use Rattle.ff_model.specs.declared.op.Op.{Op}
 use Rattle.ff_model.specs.declared.op.Op.TheVariants.{Load, Store, Verify, Mark, Release}
 use Rattle.ff_model.specs.declared.op.Reply.{Reply}
+use Rattle.ff_sessions.specs.Age.{RisesBy, age_of, most_per_item}
 use Rattle.ff_sessions.specs.Items.{IsWork, call}
-use Rattle.ff_sessions.specs.Making.{AreNext, DidItems, HasDone, IsOpen, RisesBy, most_operations}
+use Rattle.ff_sessions.specs.Making.{AreNext, DidItems, HasDone, IsOpen}
 use Rattle.ff_sessions.specs.RowStops.{IsCutIn}
 use Rattle.ff_sessions.proofs.Making.{cut_first}
 use Rattle.ff_sessions.proofs.Numbers.{next_more, numbered_more}
@@ -66,8 +67,8 @@ called_on old caller number op new spare same log has =
       turns = omega arith;
     }
 
--- a call takes few operations
-few_events : (geometry : Geometry) (op : Op) → geometry.per_block ≤ 256 → most_events geometry op ≤ most_operations
+-- a call takes few events
+few_events : (geometry : Geometry) (op : Op) → geometry.per_block ≤ 256 → most_events geometry op ≤ most_per_item
 few_events geometry (Load at len) few = omega arith
 few_events geometry (Store at bytes) few = omega arith
 few_events geometry (Mark page from count) few = omega arith
@@ -78,11 +79,12 @@ few_per_block : {T E : Type 0} (core : CoreView T E) → IsCoreSound core → co
 few_per_block core sound = sound.sized.limits.per_block.high
 
 call_rise : {T E : Type 0} (old : CoreView T E) (caller : Caller) (number : ℕ) (op : Op) (driven : Driven) (new : CoreView T E)
-    → IsCoreSound old → IsDriven old caller number op driven new → RisesBy (flash_under old.hierarchy) (flash_under new.hierarchy) 1
+    → IsCoreSound old → IsDriven old caller number op driven new → RisesBy (age_of old) (age_of new) 1
 call_rise old caller number op driven new sound drives =
     let few = few_events old.geometry op (few_per_block old sound) in
+    let made = drives.events in
     let high = drives.operations in
-    record { no_fall = drives.no_fall; most = omega arith }
+    record { no_fall = drives.no_fall; events = omega arith; operations = omega arith }
 
 -- a call was answered
 pub went_call : {T E : Type 0} (old : CoreView T E) (numbers : List ℕ) (caller : Caller) (number : ℕ) (op : Op) (reply : Reply)

@@ -17,9 +17,10 @@ use Rattle.ff_flash.specs.declared.plan.CutAt.{CutAt}
 use Rattle.ff_model.specs.Legal.{Opening}
 use Rattle.ff_policy.specs.Tuner.{TunerView}
 use Rattle.ff_trace.specs.declared.row.Row.{Row}
+use Rattle.ff_sessions.specs.Age.{Age, age_at, age_of, most_per_item}
 use Rattle.ff_sessions.specs.Begun.{IsBegun, IsRun, setup_in}
 use Rattle.ff_sessions.specs.Items.{Item}
-use Rattle.ff_sessions.specs.Making.{IsPoweredAt, StopsAt, most_operations}
+use Rattle.ff_sessions.specs.Making.{IsPoweredAt, StopsAt}
 use Rattle.ff_sessions.specs.Sessions.{MayLeave, arrive_by, cut_by, ending_items}
 use Rattle.ff_sessions.specs.Stops.{ending_of, items_behind, stop_items}
 use Rattle.ff_sessions.specs.declared.stop.Cursor.{Cursor}
@@ -115,6 +116,7 @@ pub record IsLeft {T E : Type 0} (core : CoreView T E) (arrive : ℕ) (lost : Lo
   pub base : lost.base ≡ core.opening.base
   pub entries : lost.account.entries ≡ core.history.entries
   pub turns : lost.account.turns ≡ core.log.turns
+  pub events : lost.account.events ≡ core.events
   pub flash : lost.flash ≡ powered_off (flash_under core.hierarchy)
   pub tuner : lost.tuner ≡ core.hierarchy.policy.tuner
   pub good : IsAccountOf core.geometry core.hierarchy.policy.tuner.floor (start_of core) lost.account lost.flash
@@ -144,28 +146,39 @@ ran_so {T = T} {E = E} core new rows at stop arrive lost begun stops known is le
     let arrives : arrive ≡ arrive_by core.geometry (ending_of stop lost.flash) =
     is ∙ ap (λ (g : Geometry). arrive_by g (ending_of stop flash)) same.geometry ∙ ends.arrives
     ∙ ap (λ (f : FlashState). arrive_by core.geometry (ending_of stop f)) back in
-    let begin : (flash_under core.hierarchy).operations ≡ (start_of core).operations = begun.operations in
+    let events : lost.account.events ≡ new.events = left.events in
+    let begin_events : core.events ≡ (start_of core).event = ap (λ (age : Age). age.events) begun.age in
+    let begin : (flash_under core.hierarchy).operations ≡ (start_of core).operations =
+    ap (λ (age : Age). age.operations) begun.age in
     let low : (flash_under core.hierarchy).operations ≤ flash.operations = stops.rise.no_fall in
-    let high : flash.operations ≤ (flash_under core.hierarchy).operations + most_operations * (length stops.items + 1) =
-    stops.rise.most in
+    let made : new.events ≤ core.events + most_per_item * (length stops.items + 1) = stops.rise.events in
+    let high : flash.operations ≤ (flash_under core.hierarchy).operations + most_per_item * (length stops.items + 1) =
+    stops.rise.operations in
     record {
-      work = stops.items;
-      taken = stops.split
-          ∙ ap (λ (item : List Item). stops.items ++ (item ++ items_behind rows stop)) (item_of stop lost.flash);
-      is_work = rw (left.entries, left.turns) (stops.did.work [] (begun.calls, begun.turns));
-      cut = subst (λ (f : FlashState). arrive_of_cut f ≡ cut_by (ending_of stop f)) back ends.cut;
-      leaves = subst (λ (f : FlashState). MayLeave (ending_of stop f) (items_behind rows stop)) back ends.leaves;
+      takes = record {
+        work = stops.items;
+        taken = stops.split
+            ∙ ap (λ (item : List Item). stops.items ++ (item ++ items_behind rows stop)) (item_of stop lost.flash);
+        is_work = rw (left.entries, left.turns) (stops.did.work [] (begun.calls, begun.turns));
+        numbered = λ caller. rw left.entries (stops.numbered caller);
+        cut = subst (λ (f : FlashState). arrive_of_cut f ≡ cut_by (ending_of stop f)) back ends.cut;
+        leaves = subst (λ (f : FlashState). MayLeave (ending_of stop f) (items_behind rows stop)) back ends.leaves;
+      };
+      due = record {
+        base_is = left.base ∙ base;
+        is_account = rw (same.geometry, floor, start) at left.good;
+        plan = plan ∙ same.store.plan ∙ begun.plan;
+        planned = faults ∙ known.faults ∙ ap (λ (n : ℕ). listed_count n (told_plan flash).fail) (sym operations)
+            ∙ ap (λ (p : Planned). listed_count lost.flash.operations p.fail) told;
+        owed = rw (same.geometry, base, arrives) at left.owed;
+      };
       within = stops.within;
-      numbered = λ caller. rw left.entries (stops.numbered caller);
-      base = left.base ∙ base;
-      account = rw (same.geometry, floor, start) at left.good;
-      plan = plan ∙ same.store.plan ∙ begun.plan;
-      planned = faults ∙ known.faults ∙ ap (λ (n : ℕ). listed_count n (told_plan flash).fail) (sym operations)
-          ∙ ap (λ (p : Planned). listed_count lost.flash.operations p.fail) told;
-      owed = rw (same.geometry, base, arrives) at left.owed;
       floor = ap (λ (t : TunerView T). t.floor) left.tuner ∙ floor;
-      most = omega (arith, operations, begin, high);
-      no_fall = omega (arith, operations, begin, low);
+      rise = record {
+        no_fall = omega (arith, operations, begin, low);
+        events = omega (arith, events, begin_events, made);
+        operations = omega (arith, operations, begin, high);
+      };
       counted = λ arrives is.
           let cut = subst (λ (f : FlashState). (arrive : ℕ) → arrive_of_cut f ≡ Some arrive
           → (flash_under core.hierarchy).operations < f.operations) back ends.counted in

@@ -12,4 +12,5 @@ pub mod Runs
 pub mod Steps
 pub mod StoppedRows
 pub mod Turned
+pub mod Unspent
 pub mod Work

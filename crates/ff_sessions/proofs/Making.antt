@@ -9,11 +9,11 @@ use Rattle.ff_core.specs.Log.{LogView}
 use Rattle.ff_core.specs.Powered.{IsCutOff}
 use Rattle.ff_core.proofs.Driving.{session_more}
 use Rattle.ff_core.proofs.MissRuns.{store_same}
-use Rattle.ff_flash.specs.FlashState.{FlashState}
 use Rattle.ff_model.specs.History.{Entries}
 use Rattle.ff_model.specs.declared.counts.Kind.{Kind}
+use Rattle.ff_sessions.specs.Age.{Age, RisesBy, age_of}
 use Rattle.ff_sessions.specs.Items.{IsWork, Item, turn}
-use Rattle.ff_sessions.specs.Making.{DidItems, HasDone, HasRoomFor, IsCutBehind, IsOpen, RisesBy, is_call, is_turn}
+use Rattle.ff_sessions.specs.Making.{DidItems, HasDone, HasRoomFor, IsCutBehind, IsOpen, is_call, is_turn}
 use Rattle.ff_sessions.proofs.Work.{count_append, turns_counted}
 
 pub session_same : {T E : Type 0} (core : CoreView T E) → SameSession core core
@@ -28,13 +28,15 @@ session_same core = record {
   store = store_same core.hierarchy.device.store;
 }
 
-pub rise_then : (a b c : FlashState) (m n k : ℕ) → RisesBy a b m → RisesBy b c n → m + n ≤ k → RisesBy a c k
+pub rise_then : (a b c : Age) (m n k : ℕ) → RisesBy a b m → RisesBy b c n → m + n ≤ k → RisesBy a c k
 rise_then a b c m n k first second all =
     let low = first.no_fall in
     let lower = second.no_fall in
-    let high = first.most in
-    let higher = second.most in
-    record { no_fall = omega arith; most = omega arith }
+    let made = first.events in
+    let made_then = second.events in
+    let high = first.operations in
+    let higher = second.operations in
+    record { no_fall = omega arith; events = omega arith; operations = omega arith }
 
 -- nothing was done
 did_none : {T E : Type 0} (core : CoreView T E) → DidItems core core []
@@ -47,12 +49,12 @@ did_none core = record {
 
 pub went_none : {T E : Type 0} (core : CoreView T E) (numbers : List ℕ) → IsOpen core numbers → HasDone core core numbers []
 went_none core numbers opened =
-    record { opened = opened; did = did_none core; rise = record { no_fall = omega arith; most = omega arith } }
+    record { opened = opened; did = did_none core; rise = record { no_fall = omega arith; events = omega arith; operations = omega arith } }
 
 -- a cut came in front of the first item
 pub cut_first : {T E : Type 0} (old : CoreView T E) (numbers : List ℕ) (new : CoreView T E) → IsOpen old numbers
     → SameSession old new → new.history ≡ old.history → new.log ≡ old.log
-    → RisesBy (flash_under old.hierarchy) (flash_under new.hierarchy) 1
+    → RisesBy (age_of old) (age_of new) 1
     → IsCutOff (flash_under old.hierarchy) (flash_under new.hierarchy) → IsCutBehind old new []
 cut_first old numbers new opened same history log rise cut =
     let entries : new.history.entries ≡ old.history.entries = ap (λ (h : Entries). h.entries) history in
@@ -95,7 +97,7 @@ went_then a b c m n xs ys first second =
     record {
       opened = second.opened;
       did = did_then a b c xs ys first.did second.did;
-      rise = rise_then (flash_under a.hierarchy) (flash_under b.hierarchy) (flash_under c.hierarchy) (length xs) (length ys)
+      rise = rise_then (age_of a) (age_of b) (age_of c) (length xs) (length ys)
           (length (xs ++ ys)) first.rise second.rise (omega arith);
     }
 
@@ -109,7 +111,7 @@ cut_then a b c m xs ys first second =
     record {
       did = did_then a b c xs ys first.did second.did;
       numbered = second.numbered;
-      rise = rise_then (flash_under a.hierarchy) (flash_under b.hierarchy) (flash_under c.hierarchy) (length xs) (length ys + 1)
+      rise = rise_then (age_of a) (age_of b) (age_of c) (length xs) (length ys + 1)
           (length (xs ++ ys) + 1) first.rise second.rise (omega arith);
       cut = record { cut = second.cut.cut; counted = omega arith };
     }

@@ -1,6 +1,7 @@
 -- A mount of what a session left, and the image behind it.
 use Rattle.std.proofs.Common.{◌≡◌, ◌≤◌, ◌+◌, ◌^◌, ℕ, List, length, Option, None, Some, refl, sym, ap, subst, ◌∙◌, arith}
 use Rattle.std.specs.Prelude.{Result, Ok, Err, IfSome}
+use Rattle.ff_base.specs.Count.{last_event}
 use Rattle.ff_base.specs.Geometry.{IsWithinLimits}
 use Rattle.ff_base.specs.declared.geometry.Geometry.{Geometry}
 use Rattle.ff_cache.specs.Cache.{CacheView}
@@ -77,7 +78,7 @@ read_flash flash mounted n m reads is same =
 -- a session may begin over mounted parts after the reads of their image
 resume_imaged : (g : Geometry) (nv : NvView) (flash : FlashState) (s : PageStoreView) (cache : CacheView) (marks : List ℕ)
     (reads event : ℕ) → IsWithinLimits g → flash.operations ≤ 2 ^ 61 → AreSound g nv flash → IsMounted g nv flash s cache marks
-    → reads ≤ g.pages → event ≤ 2 ^ 62 → CanResume g (after_reads s reads) cache marks event
+    → reads ≤ g.pages → event ≤ last_event → CanResume g (after_reads s reads) cache marks event
 resume_imaged g nv flash s cache marks reads event limits few sound mounted most not_past =
     let operations = ap (λ (f : FlashState). f.operations) mounted.flash_is in
     let places = limits.flash_pages.high in

@@ -14,11 +14,12 @@ use Rattle.ff_mount.specs.declared.stop.MountStop.{MountStop}
 use Rattle.ff_trace.specs.Tally.{most_losses}
 use Rattle.ff_trace.specs.Within.{AreWithin}
 use Rattle.ff_trace.specs.declared.row.Row.{Row}
+use Rattle.ff_sessions.specs.Age.{HasLife, age_at}
 use Rattle.ff_sessions.specs.Begun.{IsBegun, IsRun, setup_in}
 use Rattle.ff_sessions.specs.Closing.{IsClosedSession}
-use Rattle.ff_sessions.specs.Following.{Follow, GoesOn, IsGoneOn, IsUnderWay, IsNextStep, MayRun, most_between, cursor_after, stops_left}
+use Rattle.ff_sessions.specs.Following.{Follow, GoesOn, IsGoneOn, IsUnderWay, IsNextStep, MayRun, cursor_after, stops_left}
 use Rattle.ff_sessions.specs.Items.{Item, items_of}
-use Rattle.ff_sessions.specs.Making.{HasRoomFor, most_operations}
+use Rattle.ff_sessions.specs.Making.{HasRoomFor}
 use Rattle.ff_sessions.specs.Sessions.{AreSessionsOf, Setup, first_start, start_after}
 use Rattle.ff_sessions.specs.Stops.{items_at, items_behind}
 use Rattle.ff_sessions.specs.declared.chain.Open.{Open}
@@ -50,7 +51,7 @@ pub step_of : {T E : Type 0} (setup : Setup) (start : Start) (rows : List Row) (
     → IsNextStep setup start rows running.at step
 step_of setup start rows running stop lost closed step may ran closes gone = record {
   left = items_behind rows stop;
-  next = rw gone.session (next_of setup start rows running.at stop lost closed.session ran closes.session);
+  next = rw gone.session (next_of setup start rows running stop lost closed.session may ran closes.session);
   again = rw gone.session (IfSome_then step.next gone.next
       (λ later opens. goes_on setup start rows running stop lost closed later may ran closes opens));
   ends = rw gone.session (ends_of setup rows stop lost closed step.next closes gone.ends);
@@ -139,8 +140,8 @@ runs_first setup rows core begun room within =
         begun = begun;
         cursor = omega arith;
         room = subst (λ (items : List Item). HasRoomFor core items) whole room;
-        life = subst (λ (items : List Item). 0 + most_operations * length items + most_between * (stops_left 0 setup.plan items + 1) ≤ 2 ^ 61)
-            whole (omega arith);
+        life = subst (λ (items : List Item). HasLife (age_at (first_start setup)) (length items) (stops_left 0 setup.plan items)) whole
+            (record { events = omega arith; operations = omega arith });
       };
       few = subst (λ (items : List Item). 0 + stops_left 0 setup.plan items ≤ 16) whole (omega arith);
     }

@@ -1,7 +1,8 @@
 -- A session of a run, from what it left and how it was closed.
-use Rattle.std.proofs.Common.{◌≡◌, ◌+◌, ◌*◌, ◌^◌, ◌≤◌, ℕ, List, [], ◌++◌, length, drop, refl, sym, ap, ◌∙◌, subst, arith, length-append}
+use Rattle.std.proofs.Common.{◌≡◌, ◌+◌, ◌*◌, ◌^◌, ◌<◌, ◌≤◌, ℕ, List, [], ◌++◌, length, drop, refl, sym, ap, ◌∙◌, subst, arith, length-append}
 use Rattle.std.specs.Prelude.{Option, Some, None, IfSome, IsSomeAnd, unwrap_or}
 use Rattle.std.proofs.lemmas.Option.{none-some, same_Some}
+use Rattle.ff_base.specs.Count.{last_event}
 use Rattle.ff_base.specs.Geometry.{IsWithinLimits}
 use Rattle.ff_base.specs.declared.geometry.Geometry.{Geometry}
 use Rattle.ff_cache.specs.Cache.{CacheView}
@@ -17,11 +18,11 @@ use Rattle.ff_model.specs.Image.{Content}
 use Rattle.ff_mount.specs.Held.{held_content, image_reads, is_read}
 use Rattle.ff_store.specs.PageStore.{PageStoreView}
 use Rattle.ff_trace.specs.declared.row.Row.{Row}
+use Rattle.ff_sessions.specs.Age.{HasLife, age_at, most_for, most_per_item}
 use Rattle.ff_sessions.specs.Begun.{IsBegun, IsRun, resumed_start}
 use Rattle.ff_sessions.specs.Closing.{IsClosedSession, IsSessionOf}
-use Rattle.ff_sessions.specs.Following.{GoesOn, IsOpened, CanGoOn, MayRun, most_between, cursor_after, stops_left}
+use Rattle.ff_sessions.specs.Following.{GoesOn, IsOpened, CanGoOn, MayRun, cursor_after, stops_left}
 use Rattle.ff_sessions.specs.Items.{Item, items_of}
-use Rattle.ff_sessions.specs.Making.{most_operations}
 use Rattle.ff_sessions.specs.Remounts.{HasRemounted}
 use Rattle.ff_sessions.specs.Sessions.{IsGood, IsNextSession, Setup, arrive_by, ending_items, remount_operations, setup_with, start_after}
 use Rattle.ff_sessions.specs.Stops.{IsStopWithin, ending_of, items_at, items_behind}
@@ -40,34 +41,49 @@ told_is flash plan is = rw is refl
 
 -- the session of what a run of its rows left is good, and took its items
 good_of : {T E : Type 0} (setup : Setup) (start : Start) (rows : List Row) (at : Cursor) (stop : Stop) (lost : Lost FlashState T E)
-    (session : Session) → IsRun setup start rows at stop lost → IsSessionOf setup.geometry lost session
+    (session : Session) → IsRun setup start rows at stop lost → lost.account.events < last_event
+    → IsSessionOf setup.geometry lost session
     → IsGood setup start (arrive_by setup.geometry (ending_of stop lost.flash)) session
-good_of setup start rows at stop lost session ran of =
-    let told = told_is lost.flash setup.plan ran.plan in
+good_of setup start rows at stop lost session ran unspent of =
+    let told = told_is lost.flash setup.plan ran.due.plan in
+    let account = ap (λ (a : RecordView). a.events) of.account in
     record {
-      base = of.base ∙ ran.base;
-      account = rw (of.account, of.flash) ran.account;
-      plan = ap (λ (f : FlashState). f.plan) of.flash ∙ ran.plan;
-      planned = rw of.flash ran.planned;
-      lost = rw (of.account, of.nv, of.flash) ran.owed;
+      due = rw (of.base, of.account, of.nv, of.flash) ran.due;
+      unspent = omega (arith, account, unspent);
       stop = rw (of.nv, of.flash) (rw told at of.stop);
       image = rw (of.nv, of.flash) of.image;
     }
 
-pub next_of : {T E : Type 0} (setup : Setup) (start : Start) (rows : List Row) (at : Cursor) (stop : Stop) (lost : Lost FlashState T E)
-    (session : Session) → IsRun setup start rows at stop lost → IsSessionOf setup.geometry lost session
-    → IsNextSession setup start session (items_at rows at) (items_behind rows stop)
-next_of setup start rows at stop lost session ran of = record {
+-- the items that a session took and those that it left are not more than there were
+taken_few : {T E : Type 0} (setup : Setup) (start : Start) (rows : List Row) (at : Cursor) (stop : Stop) (lost : Lost FlashState T E)
+    → (ran : IsRun setup start rows at stop lost)
+    → length ran.takes.work + length (items_behind rows stop) ≤ length (items_at rows at)
+taken_few setup start rows at stop lost ran =
+    let left = items_behind rows stop in
+    let ending = ending_items (ending_of stop lost.flash) in
+    let all = ap length ran.takes.taken ∙ length-append ran.takes.work (ending ++ left) in
+    let behind = length-append ending left in
+    omega arith
+
+-- the life that a session begins with lasts longer than its rows
+left_unspent : {T E : Type 0} (setup : Setup) (start : Start) (rows : List Row) (running : Open T E) (stop : Stop)
+    (lost : Lost FlashState T E) → MayRun setup start rows running → IsRun setup start rows running.at stop lost
+    → lost.account.events < last_event
+left_unspent setup start rows running stop lost may ran =
+    let taken = taken_few setup start rows running.at stop lost ran in
+    let made : lost.account.events ≤ start.event + most_per_item * (length ran.takes.work + 1) = ran.rise.events in
+    let life : start.event + most_for (length (items_at rows running.at))
+    (stops_left start.operations setup.plan (items_at rows running.at)) ≤ 2 ^ 61 = may.life.events in
+    omega arith
+
+pub next_of : {T E : Type 0} (setup : Setup) (start : Start) (rows : List Row) (running : Open T E) (stop : Stop)
+    (lost : Lost FlashState T E) (session : Session) → MayRun setup start rows running
+    → IsRun setup start rows running.at stop lost → IsSessionOf setup.geometry lost session
+    → IsNextSession setup start session (items_at rows running.at) (items_behind rows stop)
+next_of setup start rows running stop lost session may ran of = record {
   ending = ending_of stop lost.flash;
-  takes = record {
-    work = ran.work;
-    taken = ran.taken;
-    is_work = rw of.account ran.is_work;
-    cut = rw of.flash ran.cut;
-    leaves = ran.leaves;
-  };
-  numbered = λ caller. rw of.account (ran.numbered caller);
-  good = good_of setup start rows at stop lost session ran of;
+  takes = rw (of.account, of.flash) ran.takes;
+  good = good_of setup start rows running.at stop lost session ran (left_unspent setup start rows running stop lost may ran) of;
 }
 
 -- a mount and an image take few operations
@@ -84,7 +100,7 @@ remount_few geometry nv flash limits =
 may_follow : {T E : Type 0} (geometry : Geometry) (lost : Lost FlashState T E) (session : Session) (store : PageStoreView)
     (cache : CacheView) (marks : List ℕ) → IsSessionOf geometry lost session → session.stop ≡ None
     → HasRemounted geometry lost.nv lost.flash store cache marks (held_content geometry.pages lost.nv lost.flash.cells)
-    → session.account.events ≤ 2 ^ 62 → CanGoOn geometry session store cache marks
+    → session.account.events ≤ last_event → CanGoOn geometry session store cache marks
 may_follow geometry lost session store cache marks of none mounted not_past = record {
   image = of.image ∙ rw none (ap Some mounted.base_is);
   resumes = mounted.resumes session.account.events not_past;
@@ -101,7 +117,7 @@ pub parts_of : {T E : Type 0} (setup : Setup) (start : Start) (rows : List Row) 
     → IfSome closed.mounted (λ m. CanGoOn geometry closed.session m.store m.cache m.marks)
 parts_of setup start rows at stop lost geometry closed ran closes =
     let account = ap (λ (a : RecordView). a.events) closes.session.account in
-    let not_past = ran.account.not_past in
+    let not_past = ran.due.is_account.not_past in
     both_some closed.mounted closes.mounted closes.runs_on (λ m mounted none.
     may_follow geometry lost closed.session m.store m.cache m.marks closes.session none mounted (omega arith))
 
@@ -121,7 +137,7 @@ setup_same : {T E : Type 0} (setup : Setup) (start : Start) (rows : List Row) (a
     → setup_with setup.geometry (told_plan store.world.flash) floor ≡ setup
 setup_same setup start rows at stop lost store cache marks image floor ran mounted floor_is =
     let told : told_plan store.world.flash ≡ setup.plan =
-    ap told_plan mounted.flash_is ∙ told_is lost.flash setup.plan ran.plan in
+    ap told_plan mounted.flash_is ∙ told_is lost.flash setup.plan ran.due.plan in
     rw (told, floor_is, ran.floor) refl
 
 -- where the rows go on, the items behind the stop are those from there on
@@ -154,30 +170,39 @@ fewer_behind : {T E : Type 0} (setup : Setup) (start : Start) (rows : List Row) 
     → stops_left new setup.plan (items_behind rows stop) + 1 ≤ stops_left start.operations setup.plan (items_at rows at)
 fewer_behind setup start rows at (stops.Cut cut) cursor lost new ran is rise =
     subst (λ (plan : Planned). stops_left new plan (items_at rows cut) + 1 ≤ stops_left start.operations plan (items_at rows at))
-    (told_is lost.flash setup.plan ran.plan)
-    (fewer_cut start.operations new lost.flash (unwrap_or (arrive_of_cut lost.flash) 0) (items_at rows at) ran.work
-    (items_at rows cut) ran.cut (ran.counted (unwrap_or (arrive_of_cut lost.flash) 0) ran.cut) rise ran.taken)
+    (told_is lost.flash setup.plan ran.due.plan)
+    (fewer_cut start.operations new lost.flash (unwrap_or (arrive_of_cut lost.flash) 0) (items_at rows at) ran.takes.work
+    (items_at rows cut) ran.takes.cut (ran.counted (unwrap_or (arrive_of_cut lost.flash) 0) ran.takes.cut) rise ran.takes.taken)
 fewer_behind setup start rows at (stops.Power row arrive) cursor lost new ran is rise =
-    let no_fall = ran.no_fall in
-    fewer_loss start.operations new setup.plan arrive (items_at rows at) ran.work (items_of (drop (row + 1) rows)) ran.taken (omega arith)
+    let no_fall : start.operations ≤ lost.flash.operations = ran.rise.no_fall in
+    fewer_loss start.operations new setup.plan arrive (items_at rows at) ran.takes.work (items_of (drop (row + 1) rows))
+    ran.takes.taken (omega arith)
 fewer_behind setup start rows at stops.End cursor lost new ran is rise = absurd (none-some cursor is)
 
--- the items that a session took and those that it left are not more than there were
-taken_few : {T E : Type 0} (setup : Setup) (start : Start) (rows : List Row) (at : Cursor) (stop : Stop) (lost : Lost FlashState T E)
-    → (ran : IsRun setup start rows at stop lost) → length ran.work + length (items_behind rows stop) ≤ length (items_at rows at)
-taken_few setup start rows at stop lost ran =
-    let left = items_behind rows stop in
-    let ending = ending_items (ending_of stop lost.flash) in
-    let all = ap length ran.taken ∙ length-append ran.work (ending ++ left) in
-    let behind = length-append ending left in
-    omega arith
+-- the life that is left for the session behind, of events or of operations
+life_left : (start new reached between work left items stops stops_new : ℕ) → new ≡ reached + between
+    → reached ≤ start + most_per_item * (work + 1) → between ≤ 2 ^ 14 + 2 ^ 16 → work + left ≤ items → stops_new + 1 ≤ stops
+    → start + most_for items stops ≤ 2 ^ 61 → new + most_for left stops_new ≤ 2 ^ 61
+life_left start new reached between work left items stops stops_new is most few taken fewer life = omega arith
 
--- the life that is left for the session behind
-life_left : (start new operations remount work left items stops stops_new : ℕ) → new ≡ operations + remount
-    → operations ≤ start + most_operations * (work + 1) → remount ≤ 2 ^ 14 + 2 ^ 16 → work + left ≤ items → stops_new + 1 ≤ stops
-    → start + most_operations * items + most_between * (stops + 1) ≤ 2 ^ 61
-    → new + most_operations * left + most_between * (stops_new + 1) ≤ 2 ^ 61
-life_left start new operations remount work left items stops stops_new is most few taken fewer life = omega arith
+life_behind : {T E : Type 0} (setup : Setup) (start : Start) (rows : List Row) (running : Open T E) (stop : Stop)
+    (lost : Lost FlashState T E) (next : Start) (between stops_new : ℕ) → MayRun setup start rows running
+    → IsRun setup start rows running.at stop lost → next.event ≡ lost.account.events
+    → next.operations ≡ lost.flash.operations + between → between ≤ 2 ^ 14 + 2 ^ 16
+    → stops_new + 1 ≤ stops_left start.operations setup.plan (items_at rows running.at)
+    → HasLife (age_at next) (length (items_behind rows stop)) stops_new
+life_behind setup start rows running stop lost next between stops_new may ran events operations few fewer =
+    let taken = taken_few setup start rows running.at stop lost ran in
+    let work = length ran.takes.work in
+    let left = length (items_behind rows stop) in
+    let items = length (items_at rows running.at) in
+    let stops = stops_left start.operations setup.plan (items_at rows running.at) in
+    record {
+      events = life_left start.event next.event lost.account.events 0 work left items stops stops_new (omega arith)
+          ran.rise.events (omega arith) taken fewer may.life.events;
+      operations = life_left start.operations next.operations lost.flash.operations between work left items stops stops_new
+          operations ran.rise.operations few taken fewer may.life.operations;
+    }
 
 -- a value, with what is known of it
 some_of : {M R : Type 0} {P Q : M → Type 0} (o : Option M) → IsSomeAnd o Q → IfSome o P → ((m : M) → P m → Q m → R) → R
@@ -208,6 +233,7 @@ module _ {T E : Type 0} (setup : Setup) (start : Start) (rows : List Row) (runni
   goes_on =
       let session = closed.session in
       let left_is = items_on rows stop later.at opens.cursor in
+      let events = ap (λ (a : RecordView). a.events) closes.session.account in
       let operations = ap (λ (f : FlashState). f.operations) closes.session.flash in
       let new = (start_after setup session).operations in
       let few = remount_few setup.geometry session.nv session.flash may.begun.limits in
@@ -219,12 +245,11 @@ module _ {T E : Type 0} (setup : Setup) (start : Start) (rows : List Row) (runni
           begun = begun_on;
           cursor = cursor_within (length rows) stop later.at ran.within opens.cursor;
           room = opens.room;
-          life = subst (λ (items : List Item). new + most_operations * length items + most_between * (stops_left new setup.plan items + 1) ≤ 2 ^ 61)
+          life = subst (λ (items : List Item). HasLife (age_at (start_after setup session)) (length items) (stops_left new setup.plan items))
               left_is
-              (life_left start.operations new lost.flash.operations (remount_operations setup.geometry session.nv session.flash)
-              (length ran.work) (length (items_behind rows stop)) (length (items_at rows running.at))
-              (stops_left start.operations setup.plan (items_at rows running.at)) (stops_left new setup.plan (items_behind rows stop))
-              (omega arith) ran.most few (taken_few setup start rows running.at stop lost ran) fewer may.life);
+              (life_behind setup start rows running stop lost (start_after setup session)
+              (remount_operations setup.geometry session.nv session.flash) (stops_left new setup.plan (items_behind rows stop))
+              may ran events (omega arith) few fewer);
         };
         fewer = fewer;
       }

@@ -8,8 +8,9 @@ use Rattle.ff_core.specs.Hierarchy.{flash_under}
 use Rattle.ff_trace.specs.Within.{IsOfCaller}
 use Rattle.ff_trace.specs.declared.row.Row.{Row}
 use Rattle.ff_trace.specs.declared.row.Row.TheVariants.{Power}
+use Rattle.ff_sessions.specs.Age.{RisesBy, age_of}
 use Rattle.ff_sessions.specs.Items.{BeginWithWork, Item, items_of}
-use Rattle.ff_sessions.specs.Making.{HasDone, HasRoomFor, IsOpen, RisesBy, StopsAt}
+use Rattle.ff_sessions.specs.Making.{HasDone, HasRoomFor, IsOpen, StopsAt}
 use Rattle.ff_sessions.specs.RowStops.{IsCutIn, RowRuns}
 use Rattle.ff_sessions.specs.Stops.{items_at, items_from, row_left}
 use Rattle.ff_sessions.specs.declared.rows.RowStop.TheVariants as row_stops
@@ -72,10 +73,11 @@ come_row a b c rows at m n i made row within is come done = record {
 
 -- what was done, with a cut that didn't come
 rise_over : {T E : Type 0} (a b : CoreView T E) (m : List ℕ) (items : List Item) → HasDone a b m items
-    → RisesBy (flash_under a.hierarchy) (flash_under b.hierarchy) (length items + 1)
+    → RisesBy (age_of a) (age_of b) (length items + 1)
 rise_over a b m items done =
-    let high = done.rise.most in
-    record { no_fall = done.rise.no_fall; most = omega arith }
+    let made = done.rise.events in
+    let high = done.rise.operations in
+    record { no_fall = done.rise.no_fall; events = omega arith; operations = omega arith }
 
 -- all rows were made
 pub stops_end : {T E : Type 0} (a b : CoreView T E) (rows : List Row) (at : Cursor) (m : List ℕ) (i made : ℕ) → length rows ≤ i

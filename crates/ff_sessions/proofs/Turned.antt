@@ -14,17 +14,19 @@ use Rattle.ff_memory.specs.declared.access.What.{What}
 use Rattle.ff_model.specs.History.{Entries}
 use Rattle.ff_model.specs.declared.counts.Kind.{Kind}
 use Rattle.ff_model.specs.declared.history.Entry.{Entry}
+use Rattle.ff_sessions.specs.Age.{RisesBy, age_of}
 use Rattle.ff_sessions.specs.Items.{BeginWithWork, IsWork, Item, turn}
-use Rattle.ff_sessions.specs.Making.{HasDone, IsCutBehind, IsOpen, RisesBy}
+use Rattle.ff_sessions.specs.Making.{HasDone, IsCutBehind, IsOpen}
 use Rattle.ff_sessions.specs.RowStops.{IsCutIn}
 use Rattle.ff_sessions.proofs.Making.{cut_first, cut_then, went_none, went_then}
 use Rattle.ff_sessions.proofs.Work.{work_append}
 
 turn_rise : {T E : Type 0} (old : CoreView T E) (kind : Kind) (back : Back) (new : CoreView T E) → IsBackEvent old kind back new
-    → RisesBy (flash_under old.hierarchy) (flash_under new.hierarchy) 1
+    → RisesBy (age_of old) (age_of new) 1
 turn_rise old kind back new event =
+    let made = event.events in
     let high = event.one_more in
-    record { no_fall = event.no_fall; most = omega arith }
+    record { no_fall = event.no_fall; events = omega arith; operations = omega arith }
 
 -- the log has the turn, and the power is on
 record HasTurn {T E : Type 0} (old : CoreView T E) (kind : Kind) (back : Back) (new : CoreView T E) : Type 0 where

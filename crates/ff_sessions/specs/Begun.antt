@@ -1,20 +1,16 @@
 -- A session that has begun and done nothing yet, and what it comes to.
-use Rattle.std.specs.Prelude.{ℕ, ◌+◌, ◌*◌, ◌≤◌, ◌<◌, ◌≡◌, true, List, [], ◌++◌, Some, length}
+use Rattle.std.specs.Prelude.{ℕ, ◌+◌, ◌<◌, ◌≡◌, true, List, [], Some, length}
 use Rattle.ff_base.specs.Geometry.{IsWithinLimits}
-use Rattle.ff_core.specs.Account.{IsAccountOf, Start, start_of}
+use Rattle.ff_core.specs.Account.{Start, start_of}
 use Rattle.ff_core.specs.Core.{CoreView}
 use Rattle.ff_core.specs.Hierarchy.{flash_under}
-use Rattle.ff_core.specs.Losing.{IsLossOf}
 use Rattle.ff_core.specs.declared.core_state.losing.Lost.{Lost}
 use Rattle.ff_flash.specs.FlashState.{FlashState}
-use Rattle.ff_flash.specs.Plans.{listed_count}
 use Rattle.ff_flash.specs.SimFlash.{arrive_of_cut, told_plan}
-use Rattle.ff_model.specs.Callers.{AreNumbered}
 use Rattle.ff_model.specs.Image.{Content}
 use Rattle.ff_trace.specs.declared.row.Row.{Row}
-use Rattle.ff_sessions.specs.Items.{IsWork, Item}
-use Rattle.ff_sessions.specs.Making.{most_operations}
-use Rattle.ff_sessions.specs.Sessions.{MayLeave, Setup, arrive_by, cut_by, ending_items, setup_with}
+use Rattle.ff_sessions.specs.Age.{RisesBy, age_at, age_left, age_of}
+use Rattle.ff_sessions.specs.Sessions.{LeavesDue, Setup, TakesItems, arrive_by, setup_with}
 use Rattle.ff_sessions.specs.Stops.{IsStopWithin, ending_of, items_at, items_behind}
 use Rattle.ff_sessions.specs.declared.stop.Cursor.{Cursor}
 use Rattle.ff_sessions.specs.declared.stop.Stop.{Stop}
@@ -30,33 +26,23 @@ pub record IsBegun {T E : Type 0} (setup : Setup) (start : Start) (core : CoreVi
   pub geometry : core.geometry ≡ setup.geometry
   pub floor : core.hierarchy.policy.tuner.floor ≡ setup.floor
   pub start_is : start_of core ≡ start
+  pub age : age_of core ≡ age_at start
   pub calls : core.history.entries ≡ []
   pub turns : core.log.turns ≡ []
   pub plan : (flash_under core.hierarchy).plan ≡ Some setup.plan
   pub on : (flash_under core.hierarchy).on ≡ true
-  pub operations : (flash_under core.hierarchy).operations ≡ start.operations
 
 -- a session that began so took the items from a cursor in the rows on up to a stop, ended by a loss of power, and left
--- what it owes
+-- what is due
 pub record IsRun {T E : Type 0} (setup : Setup) (start : Start) (rows : List Row) (at : Cursor)
     (stop : Stop) (lost : Lost FlashState T E) : Type 0 where
-  pub work : List Item
-  pub taken : items_at rows at
-      ≡ work ++ (ending_items (ending_of stop lost.flash) ++ items_behind rows stop)
-  pub is_work : IsWork 0 lost.account.entries lost.account.turns work
-  pub cut : arrive_of_cut lost.flash ≡ cut_by (ending_of stop lost.flash)
-  pub leaves : MayLeave (ending_of stop lost.flash) (items_behind rows stop)
+  pub takes : TakesItems lost.account lost.flash (ending_of stop lost.flash) (items_at rows at)
+      (items_behind rows stop)
+  pub due : LeavesDue setup start (arrive_by setup.geometry (ending_of stop lost.flash)) lost.base
+      lost.account lost.nv lost.flash
   pub within : IsStopWithin (length rows) stop
-  pub numbered : (caller : ℕ) → AreNumbered caller lost.account.entries
-  pub base : lost.base ≡ start.base
-  pub account : IsAccountOf setup.geometry setup.floor start lost.account lost.flash
-  pub plan : lost.flash.plan ≡ Some setup.plan
-  pub planned : lost.flash.faults ≡ listed_count lost.flash.operations setup.plan.fail
-  pub owed : IsLossOf setup.geometry start.base
-      (arrive_by setup.geometry (ending_of stop lost.flash)) lost.account lost.nv lost.flash
   pub floor : lost.tuner.floor ≡ setup.floor
-  pub most : lost.flash.operations ≤ start.operations + most_operations * (length work + 1)
-  pub no_fall : start.operations ≤ lost.flash.operations
+  pub rise : RisesBy (age_at start) (age_left lost.account lost.flash) (length takes.work + 1)
   pub counted : (arrive : ℕ) → arrive_of_cut lost.flash ≡ Some arrive
       → start.operations < lost.flash.operations
 

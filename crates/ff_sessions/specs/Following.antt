@@ -1,5 +1,5 @@
 -- How far a run has come by whole sessions.
-use Rattle.std.specs.Prelude.{ℕ, ◌+◌, ◌*◌, ◌^◌, ◌≤◌, ◌≡◌, nat_lt, Bool, true, false, List, [], ◌∷◌, length, count_by, Option, None, Some, IfNone, IfSome, IsSome, IsSomeAnd}
+use Rattle.std.specs.Prelude.{ℕ, ◌+◌, ◌≤◌, ◌≡◌, nat_lt, Bool, true, false, List, [], ◌∷◌, length, count_by, Option, None, Some, IfNone, IfSome, IsSome, IsSomeAnd}
 use Rattle.ff_base.specs.declared.geometry.Geometry.{Geometry}
 use Rattle.ff_cache.specs.Cache.{CacheView}
 use Rattle.ff_core.specs.Account.{Start}
@@ -10,9 +10,10 @@ use Rattle.ff_model.specs.Image.{Content}
 use Rattle.ff_mount.specs.Held.{held_content, nv_of}
 use Rattle.ff_store.specs.PageStore.{PageStoreView}
 use Rattle.ff_trace.specs.declared.row.Row.{Row}
+use Rattle.ff_sessions.specs.Age.{HasLife, age_at}
 use Rattle.ff_sessions.specs.Begun.{IsBegun, resumed_start}
 use Rattle.ff_sessions.specs.Items.{Item, items_of, loss}
-use Rattle.ff_sessions.specs.Making.{HasRoomFor, most_operations}
+use Rattle.ff_sessions.specs.Making.{HasRoomFor}
 use Rattle.ff_sessions.specs.Sessions.{IsNextSession, Setup, first_start, setup_with, start_after}
 use Rattle.ff_sessions.specs.Stops.{items_at}
 use Rattle.ff_sessions.specs.declared.chain.Open.{Open}
@@ -40,19 +41,14 @@ Follow setup start items (session ∷ later) next left =
     (middle : List Item) × IsNextSession setup start session items middle × (session.stop ≡ None)
     × Follow setup (start_after setup session) middle later next left
 
--- the most operations of a mount and an image, and of the call or turn that was cut before them
-abbrev pub most_between : ℕ
-most_between = 2 ^ 17
-
 -- a session that begins so has room and life for the rows from a cursor on, and for all sessions behind it
 pub record MayRun {T E : Type 0} (setup : Setup) (start : Start) (rows : List Row) (running : Open T E)
     : Type 0 where
   pub begun : IsBegun setup start running.core
   pub cursor : running.at.row ≤ length rows
   pub room : HasRoomFor running.core (items_at rows running.at)
-  pub life : start.operations + most_operations * length (items_at rows running.at)
-      + most_between * (stops_left start.operations setup.plan (items_at rows running.at) + 1)
-      ≤ 2 ^ 61
+  pub life : HasLife (age_at start) (length (items_at rows running.at))
+      (stops_left start.operations setup.plan (items_at rows running.at))
 
 -- the sessions so far took the items in front of the open one's, and few more may follow
 pub record IsUnderWay {T E : Type 0} (setup : Setup) (rows : List Row) (sessions : List Session)

@@ -1,14 +1,14 @@
 -- What the calls and turns of rows make of a session that is open.
-use Rattle.std.specs.Prelude.{ℕ, ◌+◌, ◌*◌, ◌^◌, ◌<◌, ◌≤◌, ◌≡◌, Bool, true, false, List, ◌++◌, length, count_by, slice_index}
+use Rattle.std.specs.Prelude.{ℕ, ◌+◌, ◌<◌, ◌≤◌, ◌≡◌, Bool, true, false, List, ◌++◌, length, count_by, slice_index}
 use Rattle.ff_core.specs.Core.{CoreView, spare_calls, spare_turns}
 use Rattle.ff_core.specs.Drives.{SameSession}
 use Rattle.ff_core.specs.Hierarchy.{flash_under}
 use Rattle.ff_core.specs.Powered.{IsCutOff}
-use Rattle.ff_flash.specs.FlashState.{FlashState}
 use Rattle.ff_model.specs.Callers.{AreNumbered, entries_of}
 use Rattle.ff_model.specs.declared.history.Entry.{Entry}
 use Rattle.ff_trace.specs.Fields.{caller_count}
 use Rattle.ff_trace.specs.declared.row.Row.{Row}
+use Rattle.ff_sessions.specs.Age.{RisesBy, age_of}
 use Rattle.ff_sessions.specs.Items.{BeginWithWork, IsWork, Item, call, turn}
 use Rattle.ff_sessions.specs.Stops.{IsStopWithin, items_at, items_behind, stop_items}
 use Rattle.ff_sessions.specs.declared.stop.Cursor.{Cursor}
@@ -22,10 +22,6 @@ is_call item = false
 abbrev pub is_turn : Item → Bool
 is_turn (turn kind) = true
 is_turn item = false
-
--- the most flash operations of a call or a turn
-abbrev pub most_operations : ℕ
-most_operations = 2 ^ 13
 
 -- the number of each caller's next call: how many it has made
 pub record AreNext (numbers : List ℕ) (entries : List Entry) : Type 0 where
@@ -52,23 +48,18 @@ pub record DidItems {T E : Type 0} (old new : CoreView T E) (items : List Item) 
   pub calls : spare_calls old ≡ spare_calls new + count_by is_call items
   pub turns : spare_turns old ≡ spare_turns new + count_by is_turn items
 
--- the flash made operations, as many as so many items may take at most
-pub record RisesBy (old new : FlashState) (items : ℕ) : Type 0 where
-  pub no_fall : old.operations ≤ new.operations
-  pub most : new.operations ≤ old.operations + most_operations * items
-
 -- these items were done, and the session is open
 pub record HasDone {T E : Type 0} (old new : CoreView T E) (numbers : List ℕ) (items : List Item)
     : Type 0 where
   pub opened : IsOpen new numbers
   pub did : DidItems old new items
-  pub rise : RisesBy (flash_under old.hierarchy) (flash_under new.hierarchy) (length items)
+  pub rise : RisesBy (age_of old) (age_of new) (length items)
 
 -- these items were done, and then an operation that was cut turned the power off
 pub record IsCutBehind {T E : Type 0} (old new : CoreView T E) (items : List Item) : Type 0 where
   pub did : DidItems old new items
   pub numbered : (caller : ℕ) → AreNumbered caller new.history.entries
-  pub rise : RisesBy (flash_under old.hierarchy) (flash_under new.hierarchy) (length items + 1)
+  pub rise : RisesBy (age_of old) (age_of new) (length items + 1)
   pub cut : IsCutOff (flash_under old.hierarchy) (flash_under new.hierarchy)
 
 -- the power is as a stop says: a cut turned it off in front of a call or turn, and else it is on
@@ -85,6 +76,6 @@ pub record StopsAt {T E : Type 0} (old : CoreView T E) (rows : List Row) (at : C
   pub split : items_at rows at ≡ items ++ (stop_items stop ++ items_behind rows stop)
   pub did : DidItems old new items
   pub numbered : (caller : ℕ) → AreNumbered caller new.history.entries
-  pub rise : RisesBy (flash_under old.hierarchy) (flash_under new.hierarchy) (length items + 1)
+  pub rise : RisesBy (age_of old) (age_of new) (length items + 1)
   pub powered : IsPoweredAt old stop (items_behind rows stop) new
   pub within : IsStopWithin (length rows) stop

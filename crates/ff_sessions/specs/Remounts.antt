@@ -1,5 +1,6 @@
 -- The mount of what a session left, and the image of it.
-use Rattle.std.specs.Prelude.{ℕ, ◌≤◌, ◌≡◌, ◌^◌, List, None, IfSome}
+use Rattle.std.specs.Prelude.{ℕ, ◌≤◌, ◌≡◌, List, None, IfSome}
+use Rattle.ff_base.specs.Count.{last_event}
 use Rattle.ff_base.specs.declared.geometry.Geometry.{Geometry}
 use Rattle.ff_cache.specs.Cache.{CacheView}
 use Rattle.ff_cache.specs.Nv.{NvView}
@@ -22,7 +23,7 @@ pub record HasRemounted (geometry : Geometry) (nv : NvView) (flash : FlashState)
   pub base_is : image ≡ held_content geometry.pages (nv_of cache marks) store.world.flash.cells
   pub flash_is : store.world.flash
       ≡ probed_flash flash (remount_operations geometry nv flash)
-  pub resumes : (event : ℕ) → event ≤ 2 ^ 62 → CanResume geometry store cache marks event
+  pub resumes : (event : ℕ) → event ≤ last_event → CanResume geometry store cache marks event
   pub unplanned : IfSome flash.plan (λ plan. first_stop plan flash.operations
       (remount_operations geometry nv flash) ≡ None)
 

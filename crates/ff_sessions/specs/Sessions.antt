@@ -1,9 +1,11 @@
 -- When a session is good, and how the sessions of a run follow one another.
-use Rattle.std.specs.Prelude.{ℕ, ◌+◌, ◌≡◌, ⊤, List, [], ◌∷◌, ◌++◌, Option, None, Some, option_map}
+use Rattle.std.specs.Prelude.{ℕ, ◌+◌, ◌<◌, ◌≡◌, ⊤, List, [], ◌∷◌, ◌++◌, Option, None, Some, option_map}
+use Rattle.ff_base.specs.Count.{last_event}
 use Rattle.ff_base.specs.declared.geometry.Geometry.{Geometry}
 use Rattle.ff_cache.specs.Nv.{NvView}
 use Rattle.ff_core.specs.Account.{IsAccountOf, Start}
 use Rattle.ff_core.specs.Losing.{IsLossOf}
+use Rattle.ff_core.specs.Record.{RecordView}
 use Rattle.ff_flash.specs.FlashState.{FlashState}
 use Rattle.ff_flash.specs.Plans.{Planned, listed_count}
 use Rattle.ff_flash.specs.SimFlash.{arrive_of_cut}
@@ -37,15 +39,22 @@ abbrev pub image_unless : Option MountStop → Content → Option Content
 image_unless None image = Some image
 image_unless (Some stop) image = None
 
--- a session that began so, and at whose end so many posts arrived, is good: its account is that of its image and its
--- flash, which failed by the plan; what the battery and the flash hold is what it owes; and the image is that, where no
--- operation that the plan stops came among those of the mount and of the image
+-- a session that began so, and at whose end so many posts arrived, left this: its account is that of its image and its
+-- flash, which failed by the plan, and what the battery and the flash hold is what it owes
+pub record LeavesDue (setup : Setup) (start : Start) (arrive : ℕ) (base : Content)
+    (account : RecordView) (nv : NvView) (flash : FlashState) : Type 0 where
+  pub base_is : base ≡ start.base
+  pub is_account : IsAccountOf setup.geometry setup.floor start account flash
+  pub plan : flash.plan ≡ Some setup.plan
+  pub planned : flash.faults ≡ listed_count flash.operations setup.plan.fail
+  pub owed : IsLossOf setup.geometry start.base arrive account nv flash
+
+-- a session that began so, and at whose end so many posts arrived, is good: it left what is due, and never ran out of
+-- event numbers; and its image is what the battery and the flash hold, where no operation that the plan stops came among
+-- those of the mount and of the image
 pub record IsGood (setup : Setup) (start : Start) (arrive : ℕ) (session : Session) : Type 0 where
-  pub base : session.base ≡ start.base
-  pub account : IsAccountOf setup.geometry setup.floor start session.account session.flash
-  pub plan : session.flash.plan ≡ Some setup.plan
-  pub planned : session.flash.faults ≡ listed_count session.flash.operations setup.plan.fail
-  pub lost : IsLossOf setup.geometry start.base arrive session.account session.nv session.flash
+  pub due : LeavesDue setup start arrive session.base session.account session.nv session.flash
+  pub unspent : session.account.events < last_event
   pub stop : session.stop ≡ option_map mount_stop (first_stop setup.plan session.flash.operations
       (remount_operations setup.geometry session.nv session.flash))
   pub image : session.image
@@ -80,20 +89,22 @@ MayLeave (by_cut arrive) left = BeginWithWork left
 MayLeave (by_row arrive) left = ⊤
 MayLeave by_end left = left ≡ []
 
--- the session takes these items, of which some are left: its calls and turns, and its ending
-pub record TakesItems (session : Session) (ending : Ending) (items left : List Item) : Type 0 where
+-- a session of this record and this flash takes these items, of which some are left: its calls, each caller's numbered
+-- from 0, and turns, and its ending
+pub record TakesItems (account : RecordView) (flash : FlashState) (ending : Ending)
+    (items left : List Item) : Type 0 where
   pub work : List Item
   pub taken : items ≡ work ++ (ending_items ending ++ left)
-  pub is_work : IsWork 0 session.account.entries session.account.turns work
-  pub cut : arrive_of_cut session.flash ≡ cut_by ending
+  pub is_work : IsWork 0 account.entries account.turns work
+  pub numbered : (caller : ℕ) → AreNumbered caller account.entries
+  pub cut : arrive_of_cut flash ≡ cut_by ending
   pub leaves : MayLeave ending left
 
--- the session is good, numbers each caller's calls from 0, and takes these items
+-- the session is good, and takes these items
 pub record IsNextSession (setup : Setup) (start : Start) (session : Session) (items left : List Item)
     : Type 0 where
   pub ending : Ending
-  pub takes : TakesItems session ending items left
-  pub numbered : (caller : ℕ) → AreNumbered caller session.account.entries
+  pub takes : TakesItems session.account session.flash ending items left
   pub good : IsGood setup start (arrive_by setup.geometry ending) session
 
 -- the first session starts from nothing

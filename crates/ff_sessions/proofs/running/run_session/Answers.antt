@@ -11,6 +11,7 @@ returns g c =
       base = c.power.ensures.base;
       entries = ap (λ (a : RecordView). a.entries) c.power.ensures.account;
       turns = ap (λ (a : RecordView). a.turns) c.power.ensures.account;
+      events = ap (λ (a : RecordView). a.events) c.power.ensures.account;
       flash = c.power.ensures.flash;
       tuner = c.power.ensures.tuner;
       good = c.power.ensures.good;
