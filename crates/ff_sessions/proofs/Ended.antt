@@ -17,7 +17,7 @@ use Rattle.ff_flash.specs.declared.plan.CutAt.{CutAt}
 use Rattle.ff_model.specs.Legal.{Opening}
 use Rattle.ff_policy.specs.Tuner.{TunerView}
 use Rattle.ff_trace.specs.declared.row.Row.{Row}
-use Rattle.ff_sessions.specs.Age.{Age, age_at, age_of, most_per_item}
+use Rattle.ff_sessions.specs.Age.{Age, most_per_item}
 use Rattle.ff_sessions.specs.Begun.{IsBegun, IsRun, setup_in}
 use Rattle.ff_sessions.specs.Items.{Item}
 use Rattle.ff_sessions.specs.Making.{IsPoweredAt, StopsAt}
