@@ -13,7 +13,6 @@ use Rattle.ff_device.specs.Parts.{CanBegin, Parts, bytes_over, is_written, page_
 use Rattle.ff_device.specs.StoreState.{bytes_at, flush_at, seen_of, stored_bytes, stored_in}
 use Rattle.ff_device.proofs.SeenPages.{length-pages, seen_bytes, store_seen, stored_at}
 use Rattle.ff_flash.specs.Cells.{Cell}
-use Rattle.ff_lines.specs.PageSets.{count_below}
 use Rattle.ff_lines.proofs.PageCounts.{count_below-same}
 use Rattle.ff_map.specs.PageMap.{IsPageMapSound, mapping_of}
 use Rattle.ff_map.specs.declared.places.Mapping.{Mapping}

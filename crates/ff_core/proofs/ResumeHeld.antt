@@ -1,5 +1,5 @@
 -- The pages that an image of mounted parts holds.
-use Rattle.std.specs.Prelude.{if◌then◌else◌, is_some, map}
+use Rattle.std.specs.Prelude.{if◌then◌else◌, is_some}
 use Rattle.std.specs.List.{range_with_len}
 use Rattle.std.proofs.Common.{◌≡◌, ℕ, Bool, true, false, List, length, count_by, get_or, Option, Some, None, inl, inr, refl, sym, ap, ◌∙◌}
 use Rattle.std.proofs.Math.ListN.{get_or-map as get_or-map_all}
