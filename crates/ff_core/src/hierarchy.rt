@@ -1,5 +1,5 @@
 // The memory over its device, and what chooses the pages that move.
-ghost use Rattle.std.specs.Prelude.{◌≡◌, ◌<◌};
+ghost use Rattle.std.specs.Prelude.{◌≡◌};
 
 mod choosing;
 mod losing;

@@ -1,5 +1,5 @@
 // How a collection begins.
-ghost use Rattle.std.specs.Prelude.{◌≡◌, ◌<◌};
+ghost use Rattle.std.specs.Prelude.{◌≡◌};
 ghost use Rattle.ff_base.specs.Count.{HasCountLeft};
 ghost use Rattle.ff_space.specs.BlockTable.{IsInState};
 ghost use Rattle.ff_space.specs.Choices.{IsLeast, IsVictimBlock};

@@ -1,5 +1,5 @@
 // The collector, and what it does at each step.
-ghost use Rattle.std.specs.Prelude.{◌≡◌, ◌<◌, true, false, [], IfOk, Ok, Err};
+ghost use Rattle.std.specs.Prelude.{◌≡◌, true, false, [], IfOk, Ok, Err};
 ghost use Rattle.ff_base.specs.Count.{HasCountLeft};
 ghost use Rattle.ff_flash.specs.declared.flash.FlashStop.TheVariants.{Off};
 ghost use Rattle.ff_flash.specs.FlashState.{HasOperationsLeft};

@@ -1,5 +1,5 @@
 // How a collection ends.
-ghost use Rattle.std.specs.Prelude.{◌≡◌, ◌<◌, length};
+ghost use Rattle.std.specs.Prelude.{◌≡◌, length};
 ghost use Rattle.ff_base.specs.Count.{HasCountLeft};
 ghost use Rattle.ff_space.specs.BlockTable.{CanEnd, IsInState};
 ghost use Rattle.ff_space.specs.declared.block.BlockState.TheVariants.{Waiting};

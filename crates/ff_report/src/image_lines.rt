@@ -1,5 +1,5 @@
 // Spells the lines of an image.
-ghost use Rattle.std.specs.Prelude.{◌≡◌, ◌<◌, ◌≤◌, ◌+◌, ◌++◌, ◌==◌, ◌-◌, ◌^◌, if◌then◌else◌, [], codes, length};
+ghost use Rattle.std.specs.Prelude.{◌≡◌, ◌≤◌, ◌+◌, ◌++◌, ◌==◌, ◌-◌, ◌^◌, if◌then◌else◌, [], codes, length};
 ghost use Rattle.std.specs.Int.{to_be_bytes, w64};
 ghost use Rattle.hex.specs.Hex.{encode_lower};
 ghost use Rattle.ff_report.specs.ImageText.{bytes_line, held_count, image_line, mark_line};

@@ -1,5 +1,5 @@
 // Posts that are laid over their pages' slots.
-ghost use Rattle.std.specs.Prelude.{◌≡◌, ◌≤◌, ◌<◌, length, nat_lt};
+ghost use Rattle.std.specs.Prelude.{◌≡◌, ◌≤◌, length, nat_lt};
 ghost use Rattle.ff_device.specs.Device.{lines_in, own_of};
 ghost use Rattle.ff_device.specs.Draining.{DrainsFirst, SameFrames};
 ghost use Rattle.ff_lines.specs.DeviceState.{IsDrained};

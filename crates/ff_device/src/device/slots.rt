@@ -1,5 +1,5 @@
 // What is done to the slot of a page that is cached.
-ghost use Rattle.std.specs.Prelude.{◌≡◌, ◌<◌, ◌-◌, IsSome, IfNone, MatchOption, length, if◌then◌else◌};
+ghost use Rattle.std.specs.Prelude.{◌≡◌, ◌<◌, IsSome, IfNone, MatchOption, length, if◌then◌else◌};
 ghost use Rattle.ff_cache.specs.Cache.{values_of, with_value, IsChosen};
 ghost use Rattle.ff_cache.specs.Slots.{held, slot_flushed, slot_flushing, slot_pinned};
 ghost use Rattle.ff_device.specs.Changes.{slot_after, Changes};
