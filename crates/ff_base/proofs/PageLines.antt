@@ -32,29 +32,29 @@ range_in_front xs ys from to order within =
 -- a part that begins behind the first of two lists
 drop_behind : (xs ys : List ℕ) (from : ℕ) → length xs ≤ from → drop from (xs ++ ys) ≡ drop (from - length xs) ys
 drop_behind xs ys from behind =
-    let place : from ≡ length xs + (from - length xs) = omega arith in
-    ap (λ (n : ℕ). drop n (xs ++ ys)) place ∙ drop-append-add xs ys (from - length xs)
+    let offset : from ≡ length xs + (from - length xs) = omega arith in
+    ap (λ (n : ℕ). drop n (xs ++ ys)) offset ∙ drop-append-add xs ys (from - length xs)
 
--- a part before the place where a list was written
-range_before : (page bytes rest : List ℕ) (place from to : ℕ) → from ≤ to → to ≤ place → place ≤ length page
-    → slice_range (take place page ++ bytes ++ rest) from to ≡ slice_range page from to
-range_before page bytes rest place from to order before within =
-    let size : length (take place page) ≡ place = omega (arith, length-take place page) in
-    let front : to ≤ length (take place page) = omega arith in
-    ap (λ (l : List ℕ). slice_range l from to) (append_assoc (take place page) bytes rest)
-    ∙ range_in_front (take place page) (bytes ++ rest) from to order front
-    ∙ sym (range_in_front (take place page) (drop place page) from to order front)
-    ∙ ap (λ (l : List ℕ). slice_range l from to) (take-append-drop place page)
+-- a part before where a list was written
+range_before : (page bytes rest : List ℕ) (at from to : ℕ) → from ≤ to → to ≤ at → at ≤ length page
+    → slice_range (take at page ++ bytes ++ rest) from to ≡ slice_range page from to
+range_before page bytes rest at from to order before within =
+    let size : length (take at page) ≡ at = omega (arith, length-take at page) in
+    let front : to ≤ length (take at page) = omega arith in
+    ap (λ (l : List ℕ). slice_range l from to) (append_assoc (take at page) bytes rest)
+    ∙ range_in_front (take at page) (bytes ++ rest) from to order front
+    ∙ sym (range_in_front (take at page) (drop at page) from to order front)
+    ∙ ap (λ (l : List ℕ). slice_range l from to) (take-append-drop at page)
 
--- what lies behind the place where a list was written
-drop_after : (page bytes : List ℕ) (place end from : ℕ) → place ≤ length page → end ≤ length page
-    → place + length bytes ≡ end → end ≤ from
-    → drop from (take place page ++ bytes ++ drop end page) ≡ drop from page
-drop_after page bytes place end from within ends size behind =
-    let front : length (take place page ++ bytes) ≡ end =
-    omega (arith, length-append (take place page) bytes, length-take place page) in
+-- what lies behind where a list was written
+drop_after : (page bytes : List ℕ) (at end from : ℕ) → at ≤ length page → end ≤ length page
+    → at + length bytes ≡ end → end ≤ from
+    → drop from (take at page ++ bytes ++ drop end page) ≡ drop from page
+drop_after page bytes at end from within ends size behind =
+    let front : length (take at page ++ bytes) ≡ end =
+    omega (arith, length-append (take at page) bytes, length-take at page) in
     let count : length (take end page) ≡ end = omega (arith, length-take end page) in
-    drop_behind (take place page ++ bytes) (drop end page) from (omega arith)
+    drop_behind (take at page ++ bytes) (drop end page) from (omega arith)
     ∙ ap (λ (n : ℕ). drop (from - n) (drop end page)) (front ∙ sym count)
     ∙ sym (drop_behind (take end page) (drop end page) from (omega arith))
     ∙ ap (λ (l : List ℕ). drop from l) (take-append-drop end page)

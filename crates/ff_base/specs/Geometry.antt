@@ -75,7 +75,7 @@ abbrev pub limit_of : Geometry → LimitName → Limit
 limit_of g name =
     record { name = name; value = value_of g name; least = least_of name; greatest = greatest_of name }
 
--- the place of a name in the order in which the numbers are looked at
+-- the position of a name in the order in which the numbers are looked at
 abbrev pub rank_of : LimitName → ℕ
 rank_of Blocks = 0
 rank_of PerBlock = 1

@@ -42,9 +42,9 @@ pub not_full_set : (cache : CacheView) (page slot : ℕ) → first_of cache page
     → is_empty (cache_slot_at cache.slots slot) ≡ true → is_full_set cache page ≡ false
 not_full_set cache page slot from to empty =
     let first : ℕ = first_of cache page in
-    let place : first + (slot - first) ≡ slot = omega arith in
+    let same : first + (slot - first) ≡ slot = omega arith in
     all_below_false (λ way. not (is_empty (way_at cache page way))) cache.ways (slot - first) (omega arith)
-    (ap (λ k. not (is_empty (cache_slot_at cache.slots k))) place ∙ ap not empty)
+    (ap (λ k. not (is_empty (cache_slot_at cache.slots k))) same ∙ ap not empty)
 
 -- what the search for an empty way tells
 pub full_told : (cache : CacheView) (page : ℕ) (result : Option ℕ)

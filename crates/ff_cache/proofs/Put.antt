@@ -75,8 +75,8 @@ filled_placed sets ways page k bytes slots are within way absent =
 pub put_sound : (old : CacheView) (page slot : ℕ) (bytes : List ℕ) (value : ℕ) → IsCacheSound old → IsInSet old page slot
     → held old.slots page ≡ None
     → IsCacheSound (record old { slots = set old.slots slot (slot_filled page bytes); values = with_value old slot value })
-put_sound old page slot bytes value sound place absent = record {
+put_sound old page slot bytes value sound in_set absent = record {
   sizes = sound.sizes;
-  slots = filled_placed old.sets old.ways page slot bytes old.slots sound.slots place.within place.way absent;
+  slots = filled_placed old.sets old.ways page slot bytes old.slots sound.slots in_set.within in_set.way absent;
   values = values_kept old.sets old.ways (slot / old.ways) (slot % old.ways) value old.values sound.values;
 }

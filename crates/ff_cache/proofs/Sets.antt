@@ -29,7 +29,7 @@ pub held_nowhere : (cache : CacheView) (page : ℕ) → IsCacheSound cache
     → held cache.slots page ≡ None
 held_nowhere cache page sound none =
     held_none cache.slots page (λ j within. false_from_ne_true (holds (cache_slot_at cache.slots j) page)
-    (λ is. let place = sound.slots.placed j page within is in let not_here = none j place.from place.to in absurd (cc)))
+    (λ is. let placed = sound.slots.placed j page within is in let not_here = none j placed.from placed.to in absurd (cc)))
 
 -- what the search of a page's set tells
 pub find_told : (cache : CacheView) (page : ℕ) (result : Option ℕ) → IsCacheSound cache

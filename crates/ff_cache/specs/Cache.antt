@@ -70,7 +70,7 @@ with_value cache slot value =
 -- the slot is the way that gives way, and the values of the set alone were raised for the choice
 pub record IsChosen (allowed page : ℕ) (old new : CacheView) (slot : ℕ) : Type 0 where
   pub way : ℕ
-  pub place : slot ≡ first_of old page + way
+  pub slot_is : slot ≡ first_of old page + way
   pub victim : IsVictimWay allowed (values_of old page) (values_of new page) way
   pub others : new.values ≡ slice_set old.values (set_of old page) (values_of new page)
 

@@ -81,9 +81,9 @@ kept_frames old new d d' page frames pins = kept_same old new d d' page frames.s
 pub fetched_free : (page slot : ℕ) (bytes : List ℕ) (old new : CacheView) (d : DeviceState) → IsInSet old page slot
     → cache_slot_at new.slots slot ≡ slot_filled page bytes
     → new.sets ≡ old.sets → new.ways ≡ old.ways → d.pinned page ≡ false → is_kept_set new d page ≡ false
-fetched_free page slot bytes old new d place there sets ways unpinned =
-    let from = place.way.from in
-    let to = place.way.to in
+fetched_free page slot bytes old new d in_set there sets ways unpinned =
+    let from = in_set.way.from in
+    let to = in_set.way.to in
     let way : ℕ = slot - page % old.sets * old.ways in
     let at : page % old.sets * old.ways + way ≡ slot = omega arith in
     rw (sets, ways) (all_below_false
@@ -94,9 +94,9 @@ fetched_free page slot bytes old new d place there sets ways unpinned =
 -- a slot of the set isn't pinned
 pub slot_free : (parts : Parts) (page slot : ℕ) → IsCacheSound parts.cache → IsInSet parts.cache page slot
     → (cache_slot_at parts.cache.slots slot).pinned ≡ false → is_kept_set parts.cache (lines_of parts) page ≡ false
-slot_free parts page slot sound place unpinned =
-    let from = place.way.from in
-    let to = place.way.to in
+slot_free parts page slot sound in_set unpinned =
+    let from = in_set.way.from in
+    let to = in_set.way.to in
     let way : ℕ = slot - page % parts.cache.sets * parts.cache.ways in
     let at : page % parts.cache.sets * parts.cache.ways + way ≡ slot = omega arith in
     unpinned_free parts page way sound (omega arith)

@@ -37,7 +37,7 @@ chosen_within page slot old mid sound r =
 chosen_in : (page slot : ℕ) (old mid : Parts) → IsCacheSound old.cache → IsRaised page slot old mid → IsInSet old.cache page slot
 chosen_in page slot old mid sound r =
     let inside = chosen_within page slot old mid sound r in
-    let place = r.chosen.place in
+    let in_set = r.chosen.in_set in
     let fits = set_fits (page % old.cache.sets) old.cache.sets old.cache.ways (mod-lt page sound.sizes.some_sets) in
     let size = sound.slots.size in
     record { way = record { from = omega arith; to = omega arith }; within = omega arith }
@@ -75,13 +75,13 @@ kept_sealed page old new sound (flushes idle full slot mid raised dirty row) kep
 fetched_row : (page slot : ℕ) (old mid new : Parts) → IsInSet old.cache page slot → mid.cache.slots ≡ old.cache.slots
     → mid.cache.sets ≡ old.cache.sets → mid.cache.ways ≡ old.cache.ways → (lines_of new).pinned page ≡ false
     → IsFetched page slot mid new → is_kept_set new.cache (lines_of new) page ≡ false
-fetched_row page slot old mid new place slots sets ways unpinned row =
+fetched_row page slot old mid new in_set slots sets ways unpinned row =
     let bytes : List ℕ = stored_bytes mid.store page in
-    let within : slot < length mid.cache.slots = rw slots place.within in
+    let within : slot < length mid.cache.slots = rw slots in_set.within in
     let there : cache_slot_at new.cache.slots slot ≡ slot_filled page bytes =
     ap (λ (c : CacheView). cache_slot_at c.slots slot) row.cache
     ∙ get_or-set_same mid.cache.slots slot (slot_filled page bytes) empty_slot within in
-    fetched_free page slot bytes old.cache new.cache (lines_of new) place there
+    fetched_free page slot bytes old.cache new.cache (lines_of new) in_set there
     (ap (λ (c : CacheView). c.sets) row.cache ∙ sets) (ap (λ (c : CacheView). c.ways) row.cache ∙ ways) unpinned
 
 flushed_frames : (slot : ℕ) (mid new : Parts) → FlushRow slot Stepped mid new

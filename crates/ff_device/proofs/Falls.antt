@@ -141,18 +141,18 @@ sealed_there flush slot is = rw is refl
 sealed_soon : (page : ℕ) (old new : Parts) → (s : Sealing page old new) → (k : ℕ)
     → soon_clean None (cache_slot_at new.cache.slots k) ≡ soon_clean (Some s.seals.flush) (cache_slot_at old.cache.slots k)
 sealed_soon page old new s k =
-    let place : ℕ = s.ends.place in
+    let index : ℕ = s.ends.index in
     let slot : Slot = sealing_slot page old new s in
     let own : holds slot s.seals.flush.page ≡ true = rw s.seals.page_is s.ends.holds in
-    elim (cases_eq k place) [
+    elim (cases_eq k index) [
       | inl same ↦
-          rw (same, s.ends.is, get_or-set_same old.cache.slots place (slot_flushed slot) empty_slot s.ends.within)
+          rw (same, s.ends.is, get_or-set_same old.cache.slots index (slot_flushed slot) empty_slot s.ends.within)
           (sealed_here s.seals.flush slot (sealing_flush page old new s).0 own)
       | inr apart ↦
-          rw (s.ends.is, get_or-set_other old.cache.slots place k (slot_flushed slot) empty_slot apart)
+          rw (s.ends.is, get_or-set_other old.cache.slots index k (slot_flushed slot) empty_slot apart)
           (sealed_there s.seals.flush (cache_slot_at old.cache.slots k) (elim (cases_lt k (length old.cache.slots)) [
             | inl within ↦ false_from_ne_true (holds (cache_slot_at old.cache.slots k) s.seals.flush.page)
-                (λ twice. apart (s.cache.slots.unique k place s.seals.flush.page within s.ends.within twice own))
+                (λ twice. apart (s.cache.slots.unique k index s.seals.flush.page within s.ends.within twice own))
             | inr past ↦ rw (get_or_past old.cache.slots k empty_slot past) refl
           ]))
     ]

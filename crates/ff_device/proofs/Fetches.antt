@@ -20,7 +20,7 @@ pub record Fetching (page slot : ℕ) (old new : Parts) : Type 0 where
   pub cache : IsCacheSound old.cache
   pub in_range : page < length old.store.pages
   pub absent : held old.cache.slots page ≡ None
-  pub place : IsInSet old.cache page slot
+  pub in_set : IsInSet old.cache page slot
   pub clean : (cache_slot_at old.cache.slots slot).dirty ≡ false
   pub goes : may_go old.window.posts (cache_slot_at old.cache.slots slot) ≡ true
   pub idle : old.store.pending ≡ None
@@ -34,7 +34,7 @@ pub fetching_replaced : (page slot : ℕ) (old new : Parts) → Fetching page sl
     → Replaced page (gone_of slot old) (slot_filled page (stored_bytes old.store page)) old.cache.slots new.cache.slots
 fetching_replaced page slot old new f =
     let own : holds (slot_filled page (stored_bytes old.store page)) page ≡ true = eq-eqb page page refl in
-    rw f.fetched.cache (replaced_at old.cache page slot (slot_filled page (stored_bytes old.store page)) f.cache f.place.within f.absent own)
+    rw f.fetched.cache (replaced_at old.cache page slot (slot_filled page (stored_bytes old.store page)) f.cache f.in_set.within f.absent own)
 
 goes_unposted : (posts : List Post) (found : Option PageNo) (p : ℕ) → not (page_waits posts found) ≡ true → is_page found p ≡ true
     → waits_in posts p ≡ false

@@ -21,18 +21,18 @@ use Rattle.ff_device.proofs.Oldest.{oldest_same}
 pub frames_by : (page : ℕ) (change : Slot → Slot) (old new : CacheView) → Changes page change old new
     → ((slot : Slot) → (change slot).page ≡ slot.page) → ((slot : Slot) → (change slot).pinned ≡ slot.pinned) → SameFrames old new
 frames_by page change old new changes pages pins =
-    let slot : Slot = cache_slot_at old.slots changes.place in
+    let slot : Slot = cache_slot_at old.slots changes.index in
     record {
       values = ap (λ c. c.values) changes.is;
       sets = ap (λ c. c.sets) changes.is;
       ways = ap (λ c. c.ways) changes.is;
-      page = λ k. elim (cases_eq k changes.place) [
-        | inl same ↦ rw (changes.is, same, get_or-set_same old.slots changes.place (change slot) empty_slot changes.within) (pages slot)
-        | inr apart ↦ rw (changes.is, get_or-set_other old.slots changes.place k (change slot) empty_slot apart) refl
+      page = λ k. elim (cases_eq k changes.index) [
+        | inl same ↦ rw (changes.is, same, get_or-set_same old.slots changes.index (change slot) empty_slot changes.within) (pages slot)
+        | inr apart ↦ rw (changes.is, get_or-set_other old.slots changes.index k (change slot) empty_slot apart) refl
       ];
-      pinned = λ k. elim (cases_eq k changes.place) [
-        | inl same ↦ rw (changes.is, same, get_or-set_same old.slots changes.place (change slot) empty_slot changes.within) (pins slot)
-        | inr apart ↦ rw (changes.is, get_or-set_other old.slots changes.place k (change slot) empty_slot apart) refl
+      pinned = λ k. elim (cases_eq k changes.index) [
+        | inl same ↦ rw (changes.is, same, get_or-set_same old.slots changes.index (change slot) empty_slot changes.within) (pins slot)
+        | inr apart ↦ rw (changes.is, get_or-set_other old.slots changes.index k (change slot) empty_slot apart) refl
       ];
     }
 
@@ -40,8 +40,8 @@ frames_by page change old new changes pages pins =
 pages_kept : (page : ℕ) (change : Slot → Slot) (old new : CacheView) → Changes page change old new
     → ((slot : Slot) → (change slot).page ≡ slot.page) → pages_in new ≡ pages_in old
 pages_kept page change old new changes pages =
-    let slot : Slot = cache_slot_at old.slots changes.place in
-    rw changes.is (map-set_same (λ (s : Slot). s.page) old.slots changes.place (change slot) empty_slot (pages slot))
+    let slot : Slot = cache_slot_at old.slots changes.index in
+    rw changes.is (map-set_same (λ (s : Slot). s.page) old.slots changes.index (change slot) empty_slot (pages slot))
 
 -- so were the store and the sizes
 pub own_kept : (page : ℕ) (change : Slot → Slot) (old new : DeviceView) → Changes page change old.cache new.cache

@@ -35,12 +35,12 @@ changed_at cache page k after sound within is also before =
           (holds_one (cache_slot_at slots k) page p is apart) (holds_one after page p also apart);
     }
 
--- the slot of a page was changed in its place
+-- the slot of a page was changed
 pub changed_by : (page : ℕ) (change : Slot → Slot) (old new : CacheView) → IsCacheSound old → (changes : Changes page change old new)
-    → (change (cache_slot_at old.slots changes.place)).page ≡ (cache_slot_at old.slots changes.place).page
-    → Changed page (cache_slot_at old.slots changes.place) (change (cache_slot_at old.slots changes.place)) old.slots new.slots
+    → (change (cache_slot_at old.slots changes.index)).page ≡ (cache_slot_at old.slots changes.index).page
+    → Changed page (cache_slot_at old.slots changes.index) (change (cache_slot_at old.slots changes.index)) old.slots new.slots
 changed_by page change old new sound changes same =
-    rw changes.is (changed_at old page changes.place (change (cache_slot_at old.slots changes.place)) sound changes.within changes.holds
+    rw changes.is (changed_at old page changes.index (change (cache_slot_at old.slots changes.index)) sound changes.within changes.holds
     (rw same changes.holds) changes.held)
 
 -- a slot was filled with a page that was held nowhere

@@ -26,7 +26,7 @@ pub record Laying (post : Post) (old new : Parts) : Type 0 where
 
 -- the slot before, and what is known of it after
 abbrev slot_of : (post : Post) (old new : Parts) → Laying post old new → Slot
-slot_of post old new l = cache_slot_at old.cache.slots l.lays.place
+slot_of post old new l = cache_slot_at old.cache.slots l.lays.index
 
 laying_changed : (post : Post) (old new : Parts) → (l : Laying post old new)
     → Changed post.page.0 (slot_of post old new l) (slot_after post (slot_of post old new l)) old.cache.slots new.cache.slots
@@ -172,12 +172,12 @@ laying_frames post old new changes = record {
   values = ap (λ c. c.values) changes.is;
   sets = ap (λ c. c.sets) changes.is;
   ways = ap (λ c. c.ways) changes.is;
-  page = λ k. elim (cases_eq k changes.place) [
-    | inl same ↦ rw (changes.is, same, get_or-set_same old.slots changes.place (slot_after post (cache_slot_at old.slots changes.place)) empty_slot changes.within) refl
-    | inr apart ↦ rw (changes.is, get_or-set_other old.slots changes.place k (slot_after post (cache_slot_at old.slots changes.place)) empty_slot apart) refl
+  page = λ k. elim (cases_eq k changes.index) [
+    | inl same ↦ rw (changes.is, same, get_or-set_same old.slots changes.index (slot_after post (cache_slot_at old.slots changes.index)) empty_slot changes.within) refl
+    | inr apart ↦ rw (changes.is, get_or-set_other old.slots changes.index k (slot_after post (cache_slot_at old.slots changes.index)) empty_slot apart) refl
   ];
-  pinned = λ k. elim (cases_eq k changes.place) [
-    | inl same ↦ rw (changes.is, same, get_or-set_same old.slots changes.place (slot_after post (cache_slot_at old.slots changes.place)) empty_slot changes.within) refl
-    | inr apart ↦ rw (changes.is, get_or-set_other old.slots changes.place k (slot_after post (cache_slot_at old.slots changes.place)) empty_slot apart) refl
+  pinned = λ k. elim (cases_eq k changes.index) [
+    | inl same ↦ rw (changes.is, same, get_or-set_same old.slots changes.index (slot_after post (cache_slot_at old.slots changes.index)) empty_slot changes.within) refl
+    | inr apart ↦ rw (changes.is, get_or-set_other old.slots changes.index k (slot_after post (cache_slot_at old.slots changes.index)) empty_slot apart) refl
   ];
 }

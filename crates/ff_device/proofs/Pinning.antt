@@ -19,7 +19,7 @@ pub record Pinning (page : ℕ) (on : Bool) (old new : Parts) : Type 0 where
   pub window : new.window ≡ old.window
 
 abbrev slot_of : (page : ℕ) (on : Bool) (old new : Parts) → Pinning page on old new → Slot
-slot_of page on old new p = cache_slot_at old.cache.slots p.pins.place
+slot_of page on old new p = cache_slot_at old.cache.slots p.pins.index
 
 pinning_edited : (page : ℕ) (on : Bool) (old new : Parts) → (p : Pinning page on old new)
     → Edited page (slot_of page on old new p) (slot_pinned on (slot_of page on old new p)) old new

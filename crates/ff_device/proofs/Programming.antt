@@ -71,9 +71,9 @@ pub record Programming (slot : ℕ) (page : PageNo) (old new : Parts) : Type 0 w
 
 -- it is the slot that was changed
 programming_same : (slot : ℕ) (page : PageNo) (old new : Parts) → (p : Programming slot page old new)
-    → cache_slot_at old.cache.slots p.begins.place ≡ cache_slot_at old.cache.slots slot
+    → cache_slot_at old.cache.slots p.begins.index ≡ cache_slot_at old.cache.slots slot
 programming_same slot page old new p =
-    let both : Some (cache_slot_at old.cache.slots p.begins.place) ≡ Some (cache_slot_at old.cache.slots slot) = sym p.begins.held ∙ dirty_cached slot page old p.slot_is in
+    let both : Some (cache_slot_at old.cache.slots p.begins.index) ≡ Some (cache_slot_at old.cache.slots slot) = sym p.begins.held ∙ dirty_cached slot page old p.slot_is in
     cc
 
 pub programming_edited : (slot : ℕ) (page : PageNo) (old new : Parts) → Programming slot page old new

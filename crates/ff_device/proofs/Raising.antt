@@ -18,7 +18,7 @@ pub record Raising (page slot : ℕ) (old mid : Parts) : Type 0 where
   pub cache : IsCacheSound old.cache
   pub raised : IsRaised page slot old mid
 
--- the place of the chosen way
+-- where the chosen way is
 pub raising_within : (page slot : ℕ) (old mid : Parts) → (r : Raising page slot old mid) → r.raised.chosen.way < old.cache.ways
 raising_within page slot old mid r =
     let size = values_size old.cache page r.cache in
@@ -28,14 +28,14 @@ raising_within page slot old mid r =
 pub raising_place : (page slot : ℕ) (old mid : Parts) → Raising page slot old mid → IsInSet old.cache page slot
 raising_place page slot old mid r =
     let inside = raising_within page slot old mid r in
-    let place = r.raised.chosen.place in
+    let slot_is = r.raised.chosen.slot_is in
     let fits = set_fits (page % old.cache.sets) old.cache.sets old.cache.ways (mod-lt page r.cache.sizes.some_sets) in
     let size = r.cache.slots.size in
     record { way = record { from = omega arith; to = omega arith }; within = omega arith }
 
 pub raising_way : (page slot : ℕ) (old mid : Parts) → (r : Raising page slot old mid)
     → way_at old.cache page r.raised.chosen.way ≡ cache_slot_at old.cache.slots slot
-raising_way page slot old mid r = ap (λ (k : ℕ). cache_slot_at old.cache.slots k) (sym r.raised.chosen.place)
+raising_way page slot old mid r = ap (λ (k : ℕ). cache_slot_at old.cache.slots k) (sym r.raised.chosen.slot_is)
 
 pub raising_goes : (page slot : ℕ) (old mid : Parts) → Raising page slot old mid
     → may_go old.window.posts (cache_slot_at old.cache.slots slot) ≡ true

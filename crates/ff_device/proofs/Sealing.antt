@@ -34,7 +34,7 @@ pub record Sealing (page : ℕ) (old new : Parts) : Type 0 where
   pub capacity : new.store.capacity ≡ old.store.capacity
 
 abbrev pub sealing_slot : (page : ℕ) (old new : Parts) → Sealing page old new → Slot
-sealing_slot page old new s = cache_slot_at old.cache.slots s.ends.place
+sealing_slot page old new s = cache_slot_at old.cache.slots s.ends.index
 
 sealing_within : (page : ℕ) (old new : Parts) → Sealing page old new → page < length old.store.pages
 sealing_within page old new s = rw (sym s.seals.page_is) (s.store.pending s.seals.flush s.seals.waited)

@@ -92,7 +92,7 @@ seal_row page (Pinned other) old new w s = absurd s
 
 -- what is asked of the slot of a fetch
 pub record IsPlace (page slot : ℕ) (old : Parts) : Type 0 where
-  pub place : IsInSet old.cache page slot
+  pub in_set : IsInSet old.cache page slot
   pub clean : (cache_slot_at old.cache.slots slot).dirty ≡ false
   pub goes : may_go old.window.posts (cache_slot_at old.cache.slots slot) ≡ true
   pub idle : old.store.pending ≡ None
@@ -104,7 +104,7 @@ fetching_of page slot old new w p f = record {
   cache = w.cache;
   in_range = w.in_range;
   absent = w.absent;
-  place = p.place;
+  in_set = p.in_set;
   clean = p.clean;
   goes = p.goes;
   idle = p.idle;
@@ -127,7 +127,7 @@ fetch_row page slot (Pinned other) old new w p f = absurd f
 pub record IsVictimSlot (page slot way : ℕ) (old : Parts) : Type 0 where
   pub within : slot < length old.cache.slots
   pub dirty : (cache_slot_at old.cache.slots slot).dirty ≡ true
-  pub place : slot ≡ first_of old.cache page + way
+  pub slot_is : slot ≡ first_of old.cache page + way
   pub chosen : chosen_way old page ≡ Some way
   pub full : is_full_set old.cache page ≡ true
   pub idle : old.store.pending ≡ None
@@ -148,12 +148,12 @@ programmed_soon : (page slot way : ℕ) (old new : Parts) → Working page old n
     → soon_clean new.store.pending (way_at new.cache page way) ≡ true
 programmed_soon page slot way old new w v p =
     let own : holds (cache_slot_at old.cache.slots slot) p.page.0 ≡ true = rw p.held (eq-eqb p.page.0 p.page.0 refl) in
-    let same : p.cache.place ≡ slot =
-    w.cache.slots.unique p.cache.place slot p.page.0 p.cache.within v.within p.cache.holds own in
-    let there : first_of old.cache page + way ≡ p.cache.place = sym v.place ∙ sym same in
-    let found : Slot = cache_slot_at old.cache.slots p.cache.place in
+    let same : p.cache.index ≡ slot =
+    w.cache.slots.unique p.cache.index slot p.page.0 p.cache.within v.within p.cache.holds own in
+    let there : first_of old.cache page + way ≡ p.cache.index = sym v.slot_is ∙ sym same in
+    let found : Slot = cache_slot_at old.cache.slots p.cache.index in
     let way_is : way_at new.cache page way ≡ slot_flushing found =
-    rw (p.cache.is, there, get_or-set_same old.cache.slots p.cache.place (slot_flushing found) empty_slot p.cache.within) refl in
+    rw (p.cache.is, there, get_or-set_same old.cache.slots p.cache.index (slot_flushing found) empty_slot p.cache.within) refl in
     rw (p.pending, way_is) (flushing_soon p.page.0 (cache_slot_at old.cache.slots slot).bytes found p.cache.holds)
 
 programmed_row : (page slot way : ℕ) (old new : Parts) → Working page old new → IsVictimSlot page slot way old → HasProgrammed slot old new
@@ -167,7 +167,7 @@ programmed_row page slot way old new w v p =
     none_of (held new.cache.slots page)
     (edited_resident p.page.0 found (slot_flushing found) old new edited page ∙ absent_no old page w.absent) in
     row_of page old new (edited_keeps p.page.0 found (slot_flushing found) old new edited refl)
-    (programmed_falls old new page way p.page.0 found.bytes w.absent still v.idle v.full v.chosen (rw (sym v.place) v.dirty) frames p.window p.pending
+    (programmed_falls old new page way p.page.0 found.bytes w.absent still v.idle v.full v.chosen (rw (sym v.slot_is) v.dirty) frames p.window p.pending
     (programmed_soon page slot way old new w v p))
 
 pub flush_row : (page slot way : ℕ) (result : Work) (old new : Parts) → Working page old new → IsVictimSlot page slot way old
@@ -175,7 +175,7 @@ pub flush_row : (page slot way : ℕ) (result : Work) (old new : Parts) → Work
 flush_row page slot way Stepped old new w v (inl p) = programmed_row page slot way old new w v p
 flush_row page slot way Stepped old new w v (inr c) =
     row_of page old new (stopped_keeps old new c.same)
-    (collected_falls old new page way w.absent v.idle v.full v.chosen (rw (sym v.place) v.dirty) c.same.cache c.same.window c.pending c.fewer)
+    (collected_falls old new page way w.absent v.idle v.full v.chosen (rw (sym v.slot_is) v.dirty) c.same.cache c.same.window c.pending c.fewer)
 flush_row page slot way Failed old new w v f = failed_row page old new (stopped_keeps old new f.0)
 flush_row page slot way Off old new w v f = off_row page old new (stopped_keeps old new f.0)
 flush_row page slot way Ready old new w v f = absurd f
@@ -215,9 +215,9 @@ raised_working page slot old mid new w r =
 raised_place : (page slot : ℕ) (old mid : Parts) → Raising page slot old mid → (cache_slot_at old.cache.slots slot).dirty ≡ false
     → old.store.pending ≡ None → IsPlace page slot mid
 raised_place page slot old mid r clean idle =
-    let place = raising_place page slot old mid r in
+    let in_set = raising_place page slot old mid r in
     let known : IsPlace page slot (with_values mid.cache.values old) = record {
-      place = record { way = place.way; within = place.within };
+      in_set = record { way = in_set.way; within = in_set.within };
       clean = clean;
       goes = raising_goes page slot old mid r;
       idle = idle;
@@ -230,7 +230,7 @@ raised_victim page slot old mid r dirty idle full =
     let known : IsVictimSlot page slot r.raised.chosen.way (with_values mid.cache.values old) = record {
       within = (raising_place page slot old mid r).within;
       dirty = dirty;
-      place = r.raised.chosen.place;
+      slot_is = r.raised.chosen.slot_is;
       chosen = raising_after page slot old mid r;
       full = full;
       idle = idle;
@@ -248,7 +248,7 @@ empty_place page slot old cache idle e =
     let clean : (cache_slot_at old.cache.slots slot).dirty ≡ false = cache.slots.clean slot e.empty in
     let unpinned : (cache_slot_at old.cache.slots slot).pinned ≡ false = cache.slots.unpinned slot e.empty in
     let unposted = empty_unposted old.window.posts (cache_slot_at old.cache.slots slot).page e.empty in
-    record { place = e.in_set; clean = clean; goes = rw (unpinned, unposted) refl; idle = idle }
+    record { in_set = e.in_set; clean = clean; goes = rw (unpinned, unposted) refl; idle = idle }
 
 pub works_row : (page : ℕ) (result : Work) (old new : Parts) → Working page old new → Row page result old new
     → Powers (stop_of_work result) old.store new.store → Works page result (lines_of old) (lines_of new)
@@ -347,8 +347,8 @@ raised_step page slot result old mid new idle full raised dirty clean =
 pub chosen_place : (page slot : ℕ) (old mid : Parts) → IsDeviceSound old → IsCacheSound old.cache → IsRaised page slot old mid
     → IsInSet mid.cache page slot
 chosen_place page slot old mid sound cache raised =
-    let place = raising_place page slot old mid (record { sound = sound; cache = cache; raised = raised }) in
-    rw raised.is (record { way = place.way; within = place.within })
+    let in_set = raising_place page slot old mid (record { sound = sound; cache = cache; raised = raised }) in
+    rw raised.is (record { way = in_set.way; within = in_set.within })
 
 pub chosen_goes : (page slot : ℕ) (old mid : Parts) → IsDeviceSound old → IsCacheSound old.cache → IsRaised page slot old mid
     → may_go mid.window.posts (cache_slot_at mid.cache.slots slot) ≡ true

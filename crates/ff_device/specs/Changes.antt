@@ -6,14 +6,14 @@ use Rattle.ff_cache.specs.Slots.{held, holds, cache_slot_at, slot_written}
 use Rattle.ff_cache.specs.declared.slot.Slot.{Slot}
 use Rattle.ff_lines.specs.declared.post.Post.{Post}
 
--- the slot of a page was changed in its place
+-- the slot of a page was changed
 pub record Changes (page : ℕ) (change : Slot → Slot) (old new : CacheView) : Type 0 where
-  pub place : ℕ
-  pub within : place < length old.slots
-  pub holds : holds (cache_slot_at old.slots place) page ≡ true
-  pub held : held old.slots page ≡ Some (cache_slot_at old.slots place)
+  pub index : ℕ
+  pub within : index < length old.slots
+  pub holds : holds (cache_slot_at old.slots index) page ≡ true
+  pub held : held old.slots page ≡ Some (cache_slot_at old.slots index)
   pub is : new
-      ≡ record old { slots = slice_set old.slots place (change (cache_slot_at old.slots place)) }
+      ≡ record old { slots = slice_set old.slots index (change (cache_slot_at old.slots index)) }
 
 -- the slot with a post laid over its page
 abbrev pub slot_after : Post → Slot → Slot

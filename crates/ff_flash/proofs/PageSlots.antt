@@ -8,7 +8,7 @@ use Rattle.std.proofs.lemmas.Slice.{drop-append-drop}
 use Rattle.std.proofs.Math.Seq.{drop-append_seam}
 use Rattle.ff_flash.specs.PageArena.{AreSlots, HasSlot, slotless_count, page_in, slot_page, slot_pages}
 
--- a part of the bytes, from a place on
+-- a part of the bytes, from an offset on
 abbrev part : List ℕ → ℕ → ℕ → List ℕ
 part bytes from size = take size (drop from bytes)
 

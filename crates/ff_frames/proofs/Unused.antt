@@ -19,9 +19,9 @@ pub least-here : (masks : List LineMask) (at line : ℕ) → ((q : ℕ) → q < 
 least-here masks at line before found =
     let within = found.in_page in
     let mask : (at * 64 + line) / 64 ≡ at = omega arith in
-    let place : (at * 64 + line) % 64 ≡ line = omega arith in
+    let offset : (at * 64 + line) % 64 ≡ line = omega arith in
     record {
-      unused = rw (mask, place) found.clear;
+      unused = rw (mask, offset) found.clear;
       least = λ q below. elim (cases_lt q (64 * at)) [
         | inl earlier ↦ before q earlier
         | inr here ↦ let same : q / 64 ≡ at = omega arith in rw same (found.least (q % 64) (omega arith))

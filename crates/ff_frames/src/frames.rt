@@ -125,7 +125,7 @@ impl Frames {
         self.frames[frame as usize].bytes.line(line)
     }
 
-    /// Lays a piece over a line from a place on. The line is dirty then.
+    /// Lays a piece over a line from an offset on. The line is dirty then.
     pub fn write(&mut self, frame: u32, line: u8, from: u8, piece: &Piece)
         requires frame { frame < length self.old }
         requires line { line < PAGE_LINES }

@@ -71,7 +71,7 @@ IsReadCause source read_stop.NoMemory = Untouched source
 IsReadCause source read_stop.Fault = FailsToRead source
 IsReadCause source read_stop.TooLong = ReadsTooMuch source
 
--- a line begins at this place
+-- a line begins at this offset
 abbrev pub begins_line : List ℕ → ℕ → Bool
 begins_line bytes at = (at == 0) || (slice_index bytes (at - 1) == 10)
 
@@ -83,7 +83,7 @@ behind_dashes bytes =
     else if bytes_eq (take 5 bytes) (codes "---\r\n") then Some (drop 5 bytes)
     else None
 
--- what stands behind the separator that begins at this place
+-- what stands behind the separator that begins at this offset
 abbrev pub behind_separator : List ℕ → ℕ → Option (List ℕ)
 behind_separator bytes at = if begins_line bytes at then behind_dashes (drop at bytes) else None
 

@@ -93,7 +93,7 @@ pub fn parts_of(input: &[u8]) -> Option<InputParts<'_>>
     None
 }
 
-// What is behind the separator that begins at a place, where one does.
+// What is behind the separator that begins at an offset, where one does.
 fn behind_separator(input: &[u8], at: usize) -> Option<&[u8]>
     requires { at < length input.now }
     ensures { option_copied result ≡ behind_separator input.now at }

@@ -7,7 +7,7 @@ use Rattle.std.proofs.lemmas.List.{length-append, length-take, length-drop, get_
 use Rattle.std.proofs.lemmas.Option.{slice_get-get_or, slice_get_past}
 use Rattle.ff_lines.specs.Overlay.{overlaid}
 
--- a byte of a list in which some bytes are replaced from a place on
+-- a byte of a list in which some bytes are replaced from an offset on
 pub byte-overlaid : (xs : List ℕ) (from : ℕ) (ys : List ℕ) (i : ℕ) → from + length ys ≤ length xs
     → get_or (overlaid xs from ys) i 0 ≡ unwrap_or (cond (nat_le from i) (slice_get ys (i - from)) None) (get_or xs i 0)
 byte-overlaid xs from ys i fits = elim (cases_lt i from) [

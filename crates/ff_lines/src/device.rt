@@ -47,7 +47,7 @@ pub trait LineDevice {
         ensures drained { IsDrained (state self.old) (state self.new) }
         ensures own { own self.new ≡ own self.old };
 
-    /// Lays a piece over a line below 64 from a place on. It waits as the last post. A `position` is that of a
+    /// Lays a piece over a line below 64 from an offset on. It waits as the last post. A `position` is that of a
     /// caller's store in the history.
     fn post(&mut self, page: PageNo, line: u8, from: u8, piece: &Piece, position: Option<u32>)
         requires resident { (state self.old).resident page.0 ≡ true }

@@ -6,7 +6,7 @@ ghost use Rattle.ff_lines.specs.Overlay.{overlaid, page_overlaid};
 use ff_base::{LINE_BYTES, PageBuf};
 use ff_model::Piece;
 
-/// Replaces the bytes of a line from a place on by those of a piece.
+/// Replaces the bytes of a line from an offset on by those of a piece.
 pub fn overlay(line: &mut [u8; LINE_BYTES], from: u8, piece: &Piece)
     requires { from + length piece.now ≤ LINE_BYTES }
     ensures { line.new ≡ overlaid line.old from piece.now }
@@ -21,7 +21,7 @@ fn overlay_bytes(line: &mut [u8; LINE_BYTES], from: usize, bytes: &[u8])
     line[from..from + bytes.len()].copy_from_slice(bytes);
 }
 
-/// Replaces the bytes of a page's line, one below 64, from a place on by those of a piece.
+/// Replaces the bytes of a page's line, one below 64, from an offset on by those of a piece.
 pub fn overlay_page(page: &mut PageBuf, line: u8, from: u8, piece: &Piece)
     requires line { line < PAGE_LINES }
     requires fits { from + length piece.now ≤ LINE_BYTES }

@@ -68,7 +68,7 @@ store_within pages at len span =
     let within = span_within pages at len span in
     omega arith
 
--- while every page has a place, no call in range is refused for want of one
+-- while there is room for every page, no call in range is refused for want of it
 pub is_refused-none : (opening : Opening) (before : List Entry) (op : Op) → opening.pages ≤ opening.capacity
     → IsTrue (is_in_range opening.pages op) → is_refused opening before op ≡ false
 is_refused-none opening before (Store at bytes) room span =

@@ -28,7 +28,7 @@ acknowledges (Load at len) = false
 acknowledges (Store at bytes) = false
 acknowledges (Release page from count) = false
 
--- one more than the place of the last entry that acknowledges and was answered Done, and 0 where there is none
+-- one more than the position of the last entry that acknowledges and was answered Done, and 0 where there is none
 abbrev pub acknowledged_length : List Entry → ℕ
 acknowledged_length [] = 0
 acknowledged_length (entry ∷ later) =

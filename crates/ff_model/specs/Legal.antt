@@ -55,7 +55,7 @@ refusal pages event op =
     else if event == last_event then Some Spent
     else None
 
--- the reply that refuses a call, or that serves it. The pages, whether the call is refused for want of a place, the byte
+-- the reply that refuses a call, or that serves it. The pages, whether the call is refused for want of room, the byte
 -- at each address, and the event number are those of its moment
 abbrev pub reply_over : ℕ → Bool → (ℕ → ℕ) → ℕ → Op → Reply
 reply_over pages refused byte event op =
@@ -116,7 +116,7 @@ LegalAfter opening before (entry ∷ later) = MayFollow opening before entry × 
 abbrev pub IsLegal : Opening → List Entry → Type 0
 IsLegal opening entries = LegalAfter opening [] entries
 
--- the entry at a place may not stand behind those before it, which are legal
+-- the entry at a position may not stand behind those before it, which are legal
 pub record IsFirstIllegal (opening : Opening) (entries : List Entry) (at : ℕ) : Type 0 where
   pub before : IsLegal opening (take at entries)
   pub entry : Entry

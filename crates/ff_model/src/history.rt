@@ -77,7 +77,7 @@ impl History {
         self.entries.is_empty()
     }
 
-    /// The entry at a place, from 0.
+    /// The entry at a position, from 0.
     pub fn get(&self, at: u32) -> Option<&Entry>
         ensures { option_copied result ≡ slice_get self.now.entries at }
     {

@@ -52,7 +52,7 @@ fn the_latest_done_store_gives_a_byte(rt: HostRuntime) -> Result<(), Fail> {
     Ok(())
 }
 
-// A place, a length, and whether the span is in range of 16 pages.
+// An address, a length, and whether the span is in range of 16 pages.
 const SPANS: [(u32, u32, bool); 8] = [
     (65535, 1, true),
     (65536, 1, false),

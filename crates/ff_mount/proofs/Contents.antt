@@ -115,11 +115,11 @@ line_byte page address =
     let line : ℕ = address % 4096 / 64 in
     let within : line < 64 = omega arith in
     let inside : address % 64 < 64 * line + 64 - 64 * line = omega arith in
-    let place : 64 * line + address % 64 ≡ address % 4096 = omega arith in
+    let offset : 64 * line + address % 64 ≡ address % 4096 = omega arith in
     rw (lt-ltb line 64 within)
     (get_or-take (64 * line + 64 - 64 * line) (drop (64 * line) page) (address % 64) 0 inside
     ∙ get_or-drop (64 * line) page (address % 64) 0
-    ∙ ap (λ k. get_or page k 0) place)
+    ∙ ap (λ k. get_or page k 0) offset)
 
 -- and the byte of the line that its page reads
 pub content_line : (g : Geometry) (nv : NvView) (flash : FlashState) (address : ℕ) → AreSound g nv flash

@@ -69,7 +69,7 @@ way_slot : (slots : List Slot) (page : ℕ) (way : NvWay) → way_of_page (ways_
     → IsSlotOfWay (held slots page) way
 way_slot slots page way is = slot_of_way (held slots page) way (sym (way_of_slot slots page) ∙ is)
 
--- the slots of the ways of slots are at the same places
+-- the slots of the ways of slots are at the same positions
 kept_slot : (slots : List Slot) (k : ℕ) → cache_slot_at (slots_of (ways_of slots)) k ≡ slot_of (way_of (cache_slot_at slots k))
 kept_slot slots k =
     get_or-map_all slot_of (ways_of slots) k (way_of empty_slot)

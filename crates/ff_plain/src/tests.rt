@@ -5,7 +5,7 @@ use ff_lines::{LineDevice, Work};
 use ff_model::Piece;
 use std::test::Fail;
 
-// The bytes 0 to 3 of line 1 of a page, after pieces were posted to it from these places on.
+// The bytes 0 to 3 of line 1 of a page, after pieces were posted to it from these offsets on.
 #[test]
 fn posts_are_laid_in_their_order(rt: HostRuntime) -> Result<(), Fail> {
     let mut plain = Plain::new(rt.alloc(), 2)?;

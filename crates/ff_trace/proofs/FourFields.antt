@@ -4,7 +4,7 @@ use Rattle.csv.specs.Records.{field_at}
 use Rattle.csv.proofs.RecordFacts.{field-there}
 use Rattle.ff_trace.specs.Fields.{is_header, row_of}
 
--- four fields are those at the places from 0 to 3
+-- four fields are those at the positions from 0 to 3
 pub four-fields : (fields : List (List ℕ)) (a b c d : List ℕ) → length fields ≡ 4
     → field_at fields 0 ≡ Some a → field_at fields 1 ≡ Some b → field_at fields 2 ≡ Some c → field_at fields 3 ≡ Some d
     → fields ≡ a ∷ b ∷ c ∷ d ∷ []

@@ -40,8 +40,8 @@ rows-counted : (tally : Tally) (rows : List Row) (before : ℕ) → tally.rows �
 rows-counted tally [] before is = is ∙ sym (add-zero before)
 rows-counted tally (row ∷ later) before is =
     let next : (with_row tally row).rows ≡ before + 1 = with_row-rows tally row ∙ ap (λ (n : ℕ). n + 1) is in
-    let place : before + 1 + length later ≡ before + length (row ∷ later) = omega arith in
-    rows-counted (with_row tally row) later (before + 1) next ∙ place
+    let position : before + 1 + length later ≡ before + length (row ∷ later) = omega arith in
+    rows-counted (with_row tally row) later (before + 1) next ∙ position
 
 -- the count of rows is their number
 pub tally_of-rows : (rows : List Row) → (tally_of rows).rows ≡ length rows
@@ -73,14 +73,14 @@ FitAfter-more limits before (first ∷ later) row fit last =
 -- the text has no record
 pub no_header : (bytes : List ℕ) (old new : Reader (Bor (List ℕ))) (found : Bool) (fields : List (List ℕ))
     → HasRead bytes [] old → ReadsOne old new found fields → found ≡ false → HasNoHeader bytes 0
-no_header bytes old new found fields read one none = record { none = rw none at (one bytes [] read); place = refl }
+no_header bytes old new found fields read one none = record { none = rw none at (one bytes [] read); position = refl }
 
 -- the first record is no header
 pub bad_header : (bytes : List ℕ) (old new : Reader (Bor (List ℕ))) (found : Bool) (fields : List (List ℕ))
     → HasRead bytes [] old → ReadsOne old new found fields → found ≡ true → is_header fields ≡ false → IsBadHeader bytes 0
 bad_header bytes old new found fields read one some fails =
     let next = rw some at (one bytes [] read) in
-    record { fields = fields; begins = (new.state, next.rest, next.reached); fails = fails; place = refl }
+    record { fields = fields; begins = (new.state, next.rest, next.reached); fails = fails; position = refl }
 
 -- a header was read
 pub rows-start : (limits : Limits) (bytes : List ℕ) (old new : Reader (Bor (List ℕ))) (found : Bool) (fields : List (List ℕ))
@@ -116,7 +116,7 @@ pub rows-bad : (limits : Limits) (bytes : List ℕ) (rows : List Row) (old new :
     → HasRows limits bytes rows old → ReadsOne old new found fields → found ≡ true → length rows + 1 ≡ number
     → None ≡ if_fits limits (tally_of rows) (row_of fields)
     → IsFirstBad limits bytes number
-rows-bad limits bytes rows old new found fields number had one some place fails =
+rows-bad limits bytes rows old new found fields number had one some position fails =
     let next = rw some at (one bytes (had.header ∷ had.records) had.read) in
     record {
       header = had.header;
@@ -127,7 +127,7 @@ rows-bad limits bytes rows old new found fields number had one some place fails 
       named = had.named;
       before = had.are_rows;
       fails = sym fails;
-      place = place;
+      position = position;
     }
 
 -- no row is left

@@ -48,7 +48,7 @@ abbrev pub if_empty : {A : Type 0} → List ℕ → Option A → Option A
 if_empty [] found = found
 if_empty (byte ∷ bytes) found = None
 
--- the place in a field of its first `+`
+-- the position in a field of its first `+`
 abbrev pub plus_at : List ℕ → Option ℕ
 plus_at field = position (λ byte. byte == 43) field
 
@@ -56,7 +56,7 @@ plus_at field = position (λ byte. byte == 43) field
 abbrev pub make_range : ℕ → ℕ → LineRange
 make_range from count = record { from = from; count = count }
 
--- the two numbers before and behind the `+` at a place
+-- the two numbers before and behind the `+` at a position
 abbrev pub range_at : List ℕ → Option ℕ → Option LineRange
 range_at field None = None
 range_at field (Some at) = both_of make_range (number_of (take at field)) (number_of (drop (at + 1) field))

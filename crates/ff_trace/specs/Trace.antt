@@ -50,19 +50,19 @@ pub record IsFirstBad (limits : Limits) (bytes : List ℕ) (number : ℕ) : Type
   pub named : is_header header ≡ true
   pub before : AreRows limits records rows
   pub fails : if_fits limits (tally_of rows) (row_of fields) ≡ None
-  pub place : length rows + 1 ≡ number
+  pub position : length rows + 1 ≡ number
 
 -- the first record is no header
 pub record IsBadHeader (bytes : List ℕ) (number : ℕ) : Type 0 where
   pub fields : List (List ℕ)
   pub begins : BeginsWith bytes (fields ∷ [])
   pub fails : is_header fields ≡ false
-  pub place : number ≡ 0
+  pub position : number ≡ 0
 
 -- there is no record, and so no header
 pub record HasNoHeader (bytes : List ℕ) (number : ℕ) : Type 0 where
   pub none : HasRecords bytes []
-  pub place : number ≡ 0
+  pub position : number ≡ 0
 
 -- why a trace is refused
 abbrev pub IsCauseOf : Limits → List ℕ → BadTrace → Type 0

@@ -106,7 +106,7 @@ fn range_at(field: &[u8], plus: Option<usize>) -> Option<LineRange>
 }
 
 fn plus_at(field: &[u8]) -> Option<usize>
-    ensures place { result ≡ plus_at field.now }
+    ensures plus { result ≡ plus_at field.now }
     ensures within { IfSome result (λ at. at < length field.now) }
 {
     field.iter().position(|byte| *byte == b'+')

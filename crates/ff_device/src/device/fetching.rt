@@ -22,7 +22,7 @@ impl<F: Flash> Device<F> {
         requires used { HasCountLeft (seen_of self.old.store).used }
         requires idle { (seen_of self.old.store).pending ≡ None }
         requires absent { held self.old.cache.slots page.0 ≡ None }
-        requires place { IsInSet self.old.cache page.0 slot }
+        requires in_set { IsInSet self.old.cache page.0 slot }
         requires clean { (cache_slot_at self.old.cache.slots slot).dirty ≡ false }
         requires goes { may_go self.old.window.posts (cache_slot_at self.old.cache.slots slot)
             ≡ true }

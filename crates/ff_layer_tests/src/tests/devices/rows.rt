@@ -10,7 +10,7 @@ pub enum Step {
     Store(u32, u8),
     /// A read of line 0 of a resident page, whether it is a caller's, and the bytes that the line starts with.
     Read(u32, bool, [u8; 4]),
-    /// Bytes laid over line 0 of page 0 from a place on, their position, and how many posts wait then.
+    /// Bytes laid over line 0 of page 0 from an offset on, their position, and how many posts wait then.
     Post(u8, &'static [u8], Option<u32>, u32),
     /// A post that isn't a caller's.
     Land(u32),

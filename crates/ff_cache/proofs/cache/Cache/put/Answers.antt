@@ -8,7 +8,7 @@ use Rattle.ff_rrip.specs.Ways.{long_value}
 
 pub invariant_of-self : goal.invariant_of-self
 invariant_of-self c =
-    let place = subst (λ (old : CacheView). IsInSet old c.args.page.0 c.args.slot) (sym c.self.view_is) c.requires.slot in
+    let in_set = subst (λ (old : CacheView). IsInSet old c.args.page.0 c.args.slot) (sym c.self.view_is) c.requires.slot in
     let absent = subst (λ (old : CacheView). held old.slots c.args.page.0 ≡ None) (sym c.self.view_is) c.requires.absent in
     rw (c.fill_at.ensures, c.insert_at.ensures)
-    (put_sound (view_of c.self.inside) c.args.page.0 c.args.slot c.args.from.now long_value c.self.invariant place absent)
+    (put_sound (view_of c.self.inside) c.args.page.0 c.args.slot c.args.from.now long_value c.self.invariant in_set absent)

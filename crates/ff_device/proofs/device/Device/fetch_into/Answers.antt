@@ -11,7 +11,7 @@ invariant_of-self g c =
     let old : Parts = record { store = seen_of c.self.inside.store; cache = c.self.inside.cache; window = c.self.inside.window } in
     let new : Parts = record { store = seen_of c.fetch.new.store; cache = c.put.new.self; window = c.self.inside.window } in
     let absent = rw (← c.self.view_is) at c.requires.absent in
-    let place = rw (← c.self.view_is) at c.requires.place in
+    let in_set = rw (← c.self.view_is) at c.requires.in_set in
     let clean = rw (← c.self.view_is) at c.requires.clean in
     let goes = rw (← c.self.view_is) at c.requires.goes in
     let idle = rw (← c.self.view_is) at c.requires.idle in
@@ -21,7 +21,7 @@ invariant_of-self g c =
       cache = c.known.ensures;
       in_range = in_range;
       absent = absent;
-      place = place;
+      in_set = in_set;
       clean = clean;
       goes = goes;
       idle = idle;
