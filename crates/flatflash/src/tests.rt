@@ -1,7 +1,6 @@
 // Inputs with their status and text, and calls in which a read or a write fails.
 mod calls;
 mod collecting;
-mod cut_masks;
 mod cuts;
 mod losses;
 mod losses_of_power;
@@ -111,11 +110,6 @@ fn a_loss_of_power_keeps_what_was_promised(rt: HostRuntime) -> Result<(), Fail> 
 #[test]
 fn what_a_cut_interrupts_is_made_again(rt: HostRuntime) -> Result<(), Fail> {
     Ok(check_cases(&rt, rt.alloc(), &cuts::CASES)?)
-}
-
-#[test]
-fn a_cut_goes_as_far_as_its_mask(rt: HostRuntime) -> Result<(), Fail> {
-    Ok(check_cases(&rt, rt.alloc(), &cut_masks::CASES)?)
 }
 
 #[test]
