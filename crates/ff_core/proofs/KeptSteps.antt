@@ -37,7 +37,7 @@ chosen_within page slot old mid sound r =
 chosen_in : (page slot : ℕ) (old mid : Parts) → IsCacheSound old.cache → IsRaised page slot old mid → IsInSet old.cache page slot
 chosen_in page slot old mid sound r =
     let inside = chosen_within page slot old mid sound r in
-    let in_set = r.chosen.in_set in
+    let slot_is = r.chosen.slot_is in
     let fits = set_fits (page % old.cache.sets) old.cache.sets old.cache.ways (mod-lt page sound.sizes.some_sets) in
     let size = sound.slots.size in
     record { way = record { from = omega arith; to = omega arith }; within = omega arith }
