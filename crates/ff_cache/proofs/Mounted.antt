@@ -8,11 +8,11 @@ use Rattle.std.specs.Prelude.{slice_index}
 use Rattle.ff_cache.specs.Cache.{values_at, IsCacheSound}
 use Rattle.ff_cache.specs.Nv.{NvWay, mounted_value, slot_of, slots_of, way_of, ways_of, AreMounted}
 use Rattle.ff_cache.specs.Slots.{cache_slot_at, ArePlaced}
-use Rattle.ff_cache.specs.declared.slot.Slot.{Slot}
+use Rattle.ff_cache.specs.declared.slot.CacheSlot.{CacheSlot}
 use Rattle.ff_cache.proofs.Fresh.{sizes_of}
 
 -- each slot is neither touched nor pinned
-pub calmed : (old new : List Slot) → length new ≡ length old
+pub calmed : (old new : List CacheSlot) → length new ≡ length old
     → ((k : ℕ) → k < length old → cache_slot_at new k ≡ slot_of (way_of (cache_slot_at old k))) → new ≡ slots_of (ways_of old)
 calmed [] [] size each = refl
 calmed [] (y ∷ ys) size each = absurd (omega arith)
@@ -28,7 +28,7 @@ ways_of_slots [] = refl
 ways_of_slots (way ∷ later) = ap (λ (rest : List NvWay). way ∷ rest) (ways_of_slots later)
 
 -- one more set
-pub mounted_more : (count ways : ℕ) (slots : List Slot) (values : List (List ℕ)) (made : List ℕ)
+pub mounted_more : (count ways : ℕ) (slots : List CacheSlot) (values : List (List ℕ)) (made : List ℕ)
     → AreMounted count ways slots values → length made ≡ ways
     → ((way : ℕ) → way < ways → slice_index made way ≡ mounted_value (cache_slot_at slots (count * ways + way)))
     → AreMounted (count + 1) ways slots (values ++ made ∷ [])
@@ -54,7 +54,7 @@ mounted_more count ways slots values made are size each =
     }
 
 -- it keeps what a cache keeps
-pub mounted_sound : (g : Geometry) (slots : List Slot) (values : List (List ℕ)) → IsWithinLimits g
+pub mounted_sound : (g : Geometry) (slots : List CacheSlot) (values : List (List ℕ)) → IsWithinLimits g
     → ArePlaced g.sets g.ways slots → AreMounted g.sets g.ways slots values
     → IsCacheSound (record { slots = slots; values = values; sets = g.sets; ways = g.ways })
 mounted_sound g slots values within placed mounted =

@@ -3,7 +3,7 @@ use Rattle.std.proofs.Common.{◌≡◌, ◌≢◌, ◌<◌, inl, inr, ℕ, ◌/
 use Rattle.std.proofs.lemmas.Bool.{cases_eq, eqb-true}
 use Rattle.ff_cache.specs.Cache.{CacheView, values_at, with_value, AreValues, IsCacheSound, IsInSet}
 use Rattle.ff_cache.specs.Slots.{empty_slot, held, holds, cache_slot_at, slot_filled, ArePlaced, IsWayOf}
-use Rattle.ff_cache.specs.declared.slot.Slot.{Slot}
+use Rattle.ff_cache.specs.declared.slot.CacheSlot.{CacheSlot}
 use Rattle.ff_cache.proofs.Held.{none_holds}
 
 -- one value of a set's was changed
@@ -25,11 +25,11 @@ values_kept sets ways at way value values are =
 filled_holds : (page p : ℕ) (bytes : List ℕ) → holds (slot_filled page bytes) p ≡ true → p ≡ page
 filled_holds page p bytes is = sym (eqb-true page p is)
 
-pub filled_placed : (sets ways page k : ℕ) (bytes : List ℕ) (slots : List Slot) → ArePlaced sets ways slots
+pub filled_placed : (sets ways page k : ℕ) (bytes : List ℕ) (slots : List CacheSlot) → ArePlaced sets ways slots
     → k < length slots → IsWayOf sets ways page k → held slots page ≡ None
     → ArePlaced sets ways (set slots k (slot_filled page bytes))
 filled_placed sets ways page k bytes slots are within way absent =
-    let slot : Slot = slot_filled page bytes in
+    let slot : CacheSlot = slot_filled page bytes in
     let here : cache_slot_at (set slots k slot) k ≡ slot = get_or-set_same slots k slot empty_slot within in
     let there = λ (j : ℕ) (apart : j ≢ k). get_or-set_other slots k j slot empty_slot apart in
     let size : length (set slots k slot) ≡ length slots = length-set slots k slot in

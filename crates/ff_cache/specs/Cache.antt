@@ -1,12 +1,12 @@
 -- What a contract sees of a cache, and what it keeps.
 use Rattle.std.specs.Prelude.{ℕ, zero, suc, ◌+◌, ◌*◌, ◌<◌, ◌≤◌, ◌≡◌, ◌%◌, ◌/◌, ◌&&◌, Bool, true, false, not, List, [], length, Some, replicate, slice_index_or, slice_set}
 use Rattle.ff_cache.specs.Slots.{empty_slot, held, holds, is_empty, cache_slot_at, ArePlaced, IsWayOf}
-use Rattle.ff_cache.specs.declared.slot.Slot.{Slot}
+use Rattle.ff_cache.specs.declared.slot.CacheSlot.{CacheSlot}
 use Rattle.ff_rrip.specs.Ways.{distant_value, IsVictimWay}
 
 pub record CacheView : Type 0 where
   -- the slots, the ways of each set one after another
-  pub slots : List Slot
+  pub slots : List CacheSlot
   -- the re-reference values of each set's ways
   pub values : List (List ℕ)
   -- how many sets there are
@@ -23,7 +23,7 @@ abbrev pub first_of : CacheView → ℕ → ℕ
 first_of cache page = set_of cache page * cache.ways
 
 -- a way of a page's set
-abbrev pub way_at : CacheView → ℕ → ℕ → Slot
+abbrev pub way_at : CacheView → ℕ → ℕ → CacheSlot
 way_at cache page way = cache_slot_at cache.slots (first_of cache page + way)
 
 -- the values of a set

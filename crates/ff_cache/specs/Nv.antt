@@ -3,7 +3,7 @@ use Rattle.std.specs.Prelude.{ℕ, ◌+◌, ◌*◌, ◌<◌, ◌≡◌, Bool, f
 use Rattle.ff_base.specs.declared.numbers.PageNo.{PageNo}
 use Rattle.ff_cache.specs.Cache.{values_at, AreValues, CacheView}
 use Rattle.ff_cache.specs.Slots.{is_empty, cache_slot_at}
-use Rattle.ff_cache.specs.declared.slot.Slot.{Slot}
+use Rattle.ff_cache.specs.declared.slot.CacheSlot.{CacheSlot}
 use Rattle.ff_rrip.specs.Ways.{distant_value, long_value}
 
 -- a way of the battery-backed cache
@@ -19,14 +19,14 @@ pub record NvView : Type 0 where
   pub marks : List ℕ
 
 -- what the battery keeps of a slot
-abbrev pub way_of : Slot → NvWay
+abbrev pub way_of : CacheSlot → NvWay
 way_of slot = record { page = slot.page; dirty = slot.dirty; bytes = slot.bytes }
 
-abbrev pub ways_of : List Slot → List NvWay
+abbrev pub ways_of : List CacheSlot → List NvWay
 ways_of slots = map way_of slots
 
 -- the slot of a way after a mount, neither touched nor pinned
-abbrev pub slot_of : NvWay → Slot
+abbrev pub slot_of : NvWay → CacheSlot
 slot_of way =
     record {
       page = way.page;
@@ -36,15 +36,15 @@ slot_of way =
       bytes = way.bytes;
     }
 
-abbrev pub slots_of : List NvWay → List Slot
+abbrev pub slots_of : List NvWay → List CacheSlot
 slots_of ways = map slot_of ways
 
 -- the value of a way after a mount
-abbrev pub mounted_value : Slot → ℕ
+abbrev pub mounted_value : CacheSlot → ℕ
 mounted_value slot = if is_empty slot then distant_value else long_value
 
 -- each way has the value that a mount gives it
-pub record AreMounted (sets ways : ℕ) (slots : List Slot) (values : List (List ℕ)) : Type 0 where
+pub record AreMounted (sets ways : ℕ) (slots : List CacheSlot) (values : List (List ℕ)) : Type 0 where
   pub sizes : AreValues sets ways values
   pub each : (set way : ℕ) → set < sets → way < ways
       → slice_index (values_at values set) way

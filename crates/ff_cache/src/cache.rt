@@ -11,7 +11,7 @@ mod fresh;
 pub mod nv;
 mod replacement;
 
-use crate::Slot;
+use crate::CacheSlot;
 use ff_base::{LINE_BYTES, PageBuf, PageNo};
 use ff_rrip::Ways;
 use std::marker::Model;
@@ -20,7 +20,7 @@ use std::marker::Model;
 /// list, the ways of each set one after another.
 #[derive(Drop)]
 pub struct Cache {
-    slots: Vec<Slot>,
+    slots: Vec<CacheSlot>,
     values: Vec<Ways>,
     sets: u32,
     ways: u32,
@@ -38,7 +38,7 @@ impl Model for Cache {
     ghost invariant = { IsKept };
 }
 
-fn first_held(slots: &[Slot], from: u32, to: u32, page: PageNo) -> Option<u32>
+fn first_held(slots: &[CacheSlot], from: u32, to: u32, page: PageNo) -> Option<u32>
     requires { to ≤ length slots.now }
     ensures { MatchOption result
         (NonePasses (λ slot. holds slot page.0) slots.now from to)
@@ -52,7 +52,7 @@ fn first_held(slots: &[Slot], from: u32, to: u32, page: PageNo) -> Option<u32>
     None
 }
 
-fn first_empty(slots: &[Slot], from: u32, to: u32) -> Option<u32>
+fn first_empty(slots: &[CacheSlot], from: u32, to: u32) -> Option<u32>
     requires { to ≤ length slots.now }
     ensures { MatchOption result
         (NonePasses is_empty slots.now from to)

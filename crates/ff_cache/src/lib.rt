@@ -8,4 +8,4 @@ mod tests;
 
 pub use cache::Cache;
 pub use cache::nv::{Nv, NvParts};
-pub use slot::Slot;
+pub use slot::CacheSlot;

@@ -10,7 +10,7 @@ use std::alloc::Global;
 
 /// A slot of the cache, which holds a page or is empty.
 #[derive(Drop)]
-pub struct Slot {
+pub struct CacheSlot {
     /// The page that is held.
     pub page: Option<PageNo>,
     /// The bytes aren't those of the flash yet.
@@ -22,12 +22,12 @@ pub struct Slot {
     pub bytes: PageBuf,
 }
 
-impl Slot {
-    pub fn empty(alloc: Global) -> Result<Slot, NoMemory>
+impl CacheSlot {
+    pub fn empty(alloc: Global) -> Result<CacheSlot, NoMemory>
         ensures { IfOk result (λ slot. slot ≡ empty_slot) }
     {
         let bytes = PageBuf::new(alloc)?;
-        Ok(Slot {
+        Ok(CacheSlot {
             page: None,
             dirty: false,
             touched: false,

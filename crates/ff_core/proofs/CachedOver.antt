@@ -6,7 +6,7 @@ use Rattle.ff_base.specs.Geometry.{capacity_of}
 use Rattle.ff_base.specs.declared.geometry.Geometry.{Geometry}
 use Rattle.ff_base.specs.declared.numbers.PageNo.{PageNo}
 use Rattle.ff_cache.specs.Slots.{held}
-use Rattle.ff_cache.specs.declared.slot.Slot.{Slot}
+use Rattle.ff_cache.specs.declared.slot.CacheSlot.{CacheSlot}
 use Rattle.ff_device.proofs.SeenPages.{length-pages, seen_bytes, stored_at}
 use Rattle.ff_device.specs.Device.{DeviceView, parts_of}
 use Rattle.ff_device.specs.Parts.{IsDeviceSound, bytes_over, is_written as is_written_part, line_below, slot_passes}
@@ -43,7 +43,7 @@ blocks_by blocks wanted per_block some each same =
     omega (arith, up, down)
 
 -- the bytes of a slot, or else those below it
-slot_over : (found : Option Slot) (below : List ℕ) → slot_bytes found below ≡ bytes_over found below
+slot_over : (found : Option CacheSlot) (below : List ℕ) → slot_bytes found below ≡ bytes_over found below
 slot_over None below = refl
 slot_over (Some slot) below = refl
 
@@ -63,7 +63,7 @@ dirty_by true waits is = refl
 dirty_by false waits is = absurd (cc)
 
 -- a page that is mapped or has a dirty slot counts as written
-written_by : (cells : List Cell) (found : Option Slot) (m : Option Mapping) (waits : Bool)
+written_by : (cells : List Cell) (found : Option CacheSlot) (m : Option Mapping) (waits : Bool)
     → (is_dirty_slot found || is_some m) ≡ true
     → (is_some (bytes_at cells m) || (slot_passes (λ slot. slot.dirty) found || waits)) ≡ true
 written_by cells found (Some m) waits is = refl
@@ -78,7 +78,7 @@ written_over d page is =
     ap (λ (found : Option (List ℕ)). is_some found || (dirty || waits)) (stored_at d.store page)
     ∙ written_by d.store.world.flash.cells (held d.cache.slots page) (mapping_of d.store.world.places number) waits is
 
-slot_resident : (found : Option Slot) (slot : Slot) → found ≡ Some slot → is_some found ≡ true
+slot_resident : (found : Option CacheSlot) (slot : CacheSlot) → found ≡ Some slot → is_some found ≡ true
 slot_resident None slot is = absurd (cc)
 slot_resident (Some found) slot is = refl
 
@@ -134,7 +134,7 @@ cache_over core arrive d sound down =
           let within = down.device.pages page (slot_resident (held d.cache.slots page) slot is) in
           subst (λ n. page < n) seen within;
       full = λ page slot is.
-          subst (λ (found : Option Slot). length (bytes_over found (stored_bytes (seen_of d.store) page)) ≡ 4096) is
+          subst (λ (found : Option CacheSlot). length (bytes_over found (stored_bytes (seen_of d.store) page)) ≡ 4096) is
           (down.device.size page);
       clean = λ page slot is clean. down.device.clean page.0 slot is clean ∙ seen_bytes d.store page;
       waiting = λ p waits. dirty_waiting d p down.device waits;

@@ -3,7 +3,7 @@ use Rattle.std.proofs.Common.{◌≡◌, ◌≤◌, ◌<◌, ◌-◌, ◌*◌, �
 use Rattle.std.proofs.lemmas.List.{length-map, length-replicate}
 use Rattle.ff_base.specs.Geometry.{IsWithinLimits}
 use Rattle.ff_base.specs.declared.geometry.Geometry.{Geometry}
-use Rattle.ff_cache.specs.declared.slot.Slot.{Slot}
+use Rattle.ff_cache.specs.declared.slot.CacheSlot.{CacheSlot}
 use Rattle.ff_calls.proofs.ToldFresh.{IsFreshDevice, told-fresh, zero-line_or_blank}
 use Rattle.ff_evict.specs.Picker.{PickerView}
 use Rattle.ff_flash.specs.FlashState.{FlashState}
@@ -40,7 +40,7 @@ fresh-device flash g = record {
       let none = cached-none flash g page in
       let bare = unstored flash g page in
       rw (none, bare) (zero-line_or_blank line i);
-  pinned = λ page. ap (λ (slot : Option Slot). slot_passes (λ s. s.pinned) slot) (cached-none flash g page);
+  pinned = λ page. ap (λ (slot : Option CacheSlot). slot_passes (λ s. s.pinned) slot) (cached-none flash g page);
   written = λ page.
       let none = cached-none flash g page in
       let bare = unstored flash g page in

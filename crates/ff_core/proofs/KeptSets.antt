@@ -6,7 +6,7 @@ use Rattle.std.proofs.lemmas.Bool.{eq-eqb}
 use Rattle.ff_base.specs.declared.numbers.PageNo.{PageNo}
 use Rattle.ff_cache.specs.Cache.{CacheView, all_below, first_of, way_at, IsCacheSound, IsInSet}
 use Rattle.ff_cache.specs.Slots.{cache_slot_at, slot_filled}
-use Rattle.ff_cache.specs.declared.slot.Slot.{Slot}
+use Rattle.ff_cache.specs.declared.slot.CacheSlot.{CacheSlot}
 use Rattle.ff_cache.proofs.Full.{all_below_false, all_below_true}
 use Rattle.ff_cache.proofs.Sets.{set_fits, slot_of_page}
 use Rattle.ff_lines.specs.DeviceState.{DeviceState}
@@ -89,7 +89,7 @@ fetched_free page slot bytes old new d in_set there sets ways unpinned =
     rw (sets, ways) (all_below_false
     (λ (w : ℕ). is_pinned_page d (cache_slot_at new.slots (page % old.sets * old.ways + w)).page) old.ways way (omega arith)
     (ap (λ (k : ℕ). is_pinned_page d (cache_slot_at new.slots k).page) at
-    ∙ ap (λ (s : Slot). is_pinned_page d s.page) there ∙ unpinned))
+    ∙ ap (λ (s : CacheSlot). is_pinned_page d s.page) there ∙ unpinned))
 
 -- a slot of the set isn't pinned
 pub slot_free : (parts : Parts) (page slot : ℕ) → IsCacheSound parts.cache → IsInSet parts.cache page slot

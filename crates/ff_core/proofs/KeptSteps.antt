@@ -5,7 +5,7 @@ use Rattle.std.proofs.Math.Nat.{mod-lt}
 use Rattle.std.proofs.lemmas.Bool.{and_parts}
 use Rattle.ff_cache.specs.Cache.{CacheView, IsCacheSound, IsInSet, way_at}
 use Rattle.ff_cache.specs.Slots.{cache_slot_at, empty_slot, slot_filled, slot_flushed, slot_flushing}
-use Rattle.ff_cache.specs.declared.slot.Slot.{Slot}
+use Rattle.ff_cache.specs.declared.slot.CacheSlot.{CacheSlot}
 use Rattle.ff_cache.proofs.Sets.{set_fits}
 use Rattle.ff_lines.specs.PageSets.{SameSet}
 use Rattle.ff_lines.specs.declared.device.Work.TheVariants.{Stepped}
@@ -22,7 +22,7 @@ use Rattle.ff_core.specs.EventsLeft.{is_kept_set}
 use Rattle.ff_core.proofs.KeptSets.{fetched_free, kept_frames, kept_same, slot_free, unpinned_free}
 
 -- a page that isn't resident isn't pinned
-unpinned_of : (found : Option Slot) → is_some found ≡ false → slot_passes (λ slot. slot.pinned) found ≡ false
+unpinned_of : (found : Option CacheSlot) → is_some found ≡ false → slot_passes (λ slot. slot.pinned) found ≡ false
 unpinned_of None absent = refl
 unpinned_of (Some slot) absent = absurd (cc)
 
@@ -46,7 +46,7 @@ not_true : (b : Bool) → not b ≡ true → b ≡ false
 not_true true is = absurd (cc)
 not_true false is = refl
 
-goes_unpinned : (posts : List Post) (slot : Slot) → may_go posts slot ≡ true → slot.pinned ≡ false
+goes_unpinned : (posts : List Post) (slot : CacheSlot) → may_go posts slot ≡ true → slot.pinned ≡ false
 goes_unpinned posts slot goes =
     not_true slot.pinned (and_parts (not slot.pinned) (not (page_waits posts slot.page)) goes).0
 

@@ -7,7 +7,7 @@ use Rattle.ff_base.specs.declared.numbers.PageNo.{PageNo}
 use Rattle.ff_cache.specs.Cache.{CacheView, IsCacheSound}
 use Rattle.ff_cache.specs.Nv.{NvWay, way_of, ways_of}
 use Rattle.ff_cache.specs.Slots.{held}
-use Rattle.ff_cache.specs.declared.slot.Slot.{Slot}
+use Rattle.ff_cache.specs.declared.slot.CacheSlot.{CacheSlot}
 use Rattle.ff_device.specs.Device.{DeviceView, parts_of}
 use Rattle.ff_device.specs.Parts.{CanBegin, Parts, bytes_over, is_written, page_below, slot_passes}
 use Rattle.ff_device.specs.StoreState.{bytes_at, flush_at, seen_of, stored_bytes, stored_in}
@@ -37,7 +37,7 @@ pub record AreParts (store : PageStoreView) (cache : CacheView) : Type 0 where
 abbrev parts_over : PageStoreView → CacheView → Geometry → Parts
 parts_over store cache g = parts_of (resumed_device store cache g)
 
-slot-below : (found : Option Slot) (below bytes : List ℕ) → below ≡ bytes → bytes_over found below ≡ slot_bytes found bytes
+slot-below : (found : Option CacheSlot) (below bytes : List ℕ) → below ≡ bytes → bytes_over found below ≡ slot_bytes found bytes
 slot-below None below bytes same = same
 slot-below (Some slot) below bytes same = refl
 
@@ -49,7 +49,7 @@ read-below store cache g page parts over =
     slot-below (held cache.slots page) (stored_bytes (seen_of store) page) _ (seen_bytes store number)
     ∙ sym (held_over g store cache number parts.store_sound over)
 
-dirty-passes : (found : Option Slot) → slot_passes (λ slot. slot.dirty) found ≡ is_dirty_slot found
+dirty-passes : (found : Option CacheSlot) → slot_passes (λ slot. slot.dirty) found ≡ is_dirty_slot found
 dirty-passes None = refl
 dirty-passes (Some slot) = refl
 
@@ -73,12 +73,12 @@ written-over store cache g page =
     ap₂ (λ (a b : Bool). a || (b || false)) stored (dirty-passes (held cache.slots page))
     ∙ either-way (is_mapped store.world.places number) (is_dirty_slot (held cache.slots page))
 
-dirty-way : (slots : List Slot) (page : ℕ) (found : Option Slot) → held slots page ≡ found
+dirty-way : (slots : List CacheSlot) (page : ℕ) (found : Option CacheSlot) → held slots page ≡ found
     → is_dirty_way (way_of_page (ways_of slots) page) ≡ is_dirty_slot found
 dirty-way slots page None is =
-    ap (λ (way : Option NvWay). is_dirty_way way) (way_of_slot slots page ∙ ap (λ (o : Option Slot). option_map way_of o) is)
+    ap (λ (way : Option NvWay). is_dirty_way way) (way_of_slot slots page ∙ ap (λ (o : Option CacheSlot). option_map way_of o) is)
 dirty-way slots page (Some slot) is =
-    ap (λ (way : Option NvWay). is_dirty_way way) (way_of_slot slots page ∙ ap (λ (o : Option Slot). option_map way_of o) is)
+    ap (λ (way : Option NvWay). is_dirty_way way) (way_of_slot slots page ∙ ap (λ (o : Option CacheSlot). option_map way_of o) is)
 
 -- a page is written where the battery or the flash holds it
 pub written-held : (store : PageStoreView) (cache : CacheView) (page : ℕ) → IsStoreSound store → store.waits ≡ None
@@ -90,12 +90,12 @@ written-held store cache page sound none =
 none-pending : (cells : List Cell) (waits : Option Pending) → waits ≡ None → flush_at cells waits ≡ None
 none-pending cells waits none = ap (λ (o : Option Pending). flush_at cells o) none
 
-found-within : (g : Geometry) (store : PageStoreView) (cache : CacheView) (page : ℕ) (found : Option Slot) → IsCacheOver g store cache
+found-within : (g : Geometry) (store : PageStoreView) (cache : CacheView) (page : ℕ) (found : Option CacheSlot) → IsCacheOver g store cache
     → held cache.slots page ≡ found → is_some found ≡ true → page < g.pages
 found-within g store cache page None over is some = absurd (cc)
 found-within g store cache page (Some slot) over is some = over.page page slot is
 
-sized : (g : Geometry) (store : PageStoreView) (cache : CacheView) (page : ℕ) (found : Option Slot) → IsCacheOver g store cache
+sized : (g : Geometry) (store : PageStoreView) (cache : CacheView) (page : ℕ) (found : Option CacheSlot) → IsCacheOver g store cache
     → held cache.slots page ≡ found → (below : List ℕ) → length below ≡ 4096 → length (bytes_over found below) ≡ 4096
 sized g store cache page None over is below full = full
 sized g store cache page (Some slot) over is below full = over.full page slot is

@@ -6,20 +6,20 @@ use Rattle.ff_base.specs.declared.geometry.Geometry.{Geometry}
 use Rattle.ff_cache.specs.Cache.{CacheView}
 use Rattle.ff_cache.specs.Nv.{IsFromNv, NvWay, slot_of, slots_of}
 use Rattle.ff_cache.specs.Slots.{held, holds}
-use Rattle.ff_cache.specs.declared.slot.Slot.{Slot}
+use Rattle.ff_cache.specs.declared.slot.CacheSlot.{CacheSlot}
 use Rattle.ff_mount.specs.Over.{IsCacheOver}
 use Rattle.ff_mount.specs.Reading.{after_reads}
 use Rattle.ff_store.specs.PageStore.{PageStoreView}
 use Rattle.ff_store.specs.Remounted.{IsRemounted}
 use Rattle.ff_core.specs.Resume.{CanResume, IsUnpinned}
 
-unpinned-first : (first : Bool) (way : NvWay) (rest : Option Slot) (slot : Slot)
-    → ((found : Slot) → rest ≡ Some found → found.pinned ≡ false)
+unpinned-first : (first : Bool) (way : NvWay) (rest : Option CacheSlot) (slot : CacheSlot)
+    → ((found : CacheSlot) → rest ≡ Some found → found.pinned ≡ false)
     → cond first (Some (slot_of way)) rest ≡ Some slot → slot.pinned ≡ false
-unpinned-first true way rest slot later is = ap (λ (s : Slot). s.pinned) (sym (same_Some (slot_of way) slot is))
+unpinned-first true way rest slot later is = ap (λ (s : CacheSlot). s.pinned) (sym (same_Some (slot_of way) slot is))
 unpinned-first false way rest slot later is = later slot is
 
-unpinned-ways : (ways : List NvWay) (page : ℕ) (slot : Slot) → held (slots_of ways) page ≡ Some slot → slot.pinned ≡ false
+unpinned-ways : (ways : List NvWay) (page : ℕ) (slot : CacheSlot) → held (slots_of ways) page ≡ Some slot → slot.pinned ≡ false
 unpinned-ways [] page slot is = absurd (none-some slot is)
 unpinned-ways (way ∷ later) page slot is =
     unpinned-first (holds (slot_of way) page) way (held (slots_of later) page) slot (unpinned-ways later page) is
@@ -27,7 +27,7 @@ unpinned-ways (way ∷ later) page slot is =
 -- the cache of what the battery kept has no pinned slot
 pub mounted_unpinned : (sets ways : ℕ) (kept : List NvWay) (cache : CacheView) → IsFromNv sets ways kept cache → IsUnpinned cache
 mounted_unpinned sets ways kept cache from page slot is =
-    unpinned-ways kept page slot (ap (λ (slots : List Slot). held slots page) (sym from.slots) ∙ is)
+    unpinned-ways kept page slot (ap (λ (slots : List CacheSlot). held slots page) (sym from.slots) ∙ is)
 
 -- a session may begin over what a mount makes
 pub resume_mounted : (g : Geometry) (s : PageStoreView) (cache : CacheView) (kept : List NvWay) (marks : List ℕ) (event : ℕ)

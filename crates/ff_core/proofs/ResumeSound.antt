@@ -5,7 +5,7 @@ use Rattle.ff_base.specs.Geometry.{IsWithinLimits}
 use Rattle.ff_base.specs.declared.geometry.Geometry.{Geometry}
 use Rattle.ff_cache.specs.Cache.{CacheView}
 use Rattle.ff_cache.specs.Slots.{held}
-use Rattle.ff_cache.specs.declared.slot.Slot.{Slot}
+use Rattle.ff_cache.specs.declared.slot.CacheSlot.{CacheSlot}
 use Rattle.ff_calls.proofs.ToldResumed.{AreHeldBorn, IsResumedDevice, told-resumed}
 use Rattle.ff_device.specs.Device.{lines_in}
 use Rattle.ff_device.specs.Parts.{slot_passes}
@@ -34,7 +34,7 @@ base_of g store cache marks = held_content g.pages (nv_of cache marks) store.wor
 abbrev opened : Geometry → PageStoreView → CacheView → List ℕ → ℕ → Opening
 opened g store cache marks event = opening_of (base_of g store cache marks) g event store.world.flash.faults
 
-unpinned-by : (cache : CacheView) (page : ℕ) (found : Option Slot) → IsUnpinned cache → held cache.slots page ≡ found
+unpinned-by : (cache : CacheView) (page : ℕ) (found : Option CacheSlot) → IsUnpinned cache → held cache.slots page ≡ found
     → slot_passes (λ slot. slot.pinned) found ≡ false
 unpinned-by cache page None unpinned is = refl
 unpinned-by cache page (Some slot) unpinned is = unpinned page slot is

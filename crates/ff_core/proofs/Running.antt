@@ -6,9 +6,9 @@ use Rattle.std.specs.Option.{is_some}
 use Rattle.ff_flash.specs.FlashState.{FlashState, Operates}
 use Rattle.ff_flash.specs.declared.flash.FlashStop.{FlashStop}
 use Rattle.ff_flash.specs.declared.flash.FlashStop.TheVariants.{Failed as FailedStop, Off as OffStop}
-use Rattle.ff_gc.specs.Counts.{begun}
+use Rattle.ff_gc.specs.FlashCounts.{begun}
 use Rattle.ff_gc.specs.Steps.{Takes, made, rested}
-use Rattle.ff_gc.specs.declared.counts.Counts.{Counts as FlashCounts}
+use Rattle.ff_gc.specs.declared.counts.FlashCounts.{FlashCounts}
 use Rattle.ff_gc.specs.declared.counts.OperationKind.{OperationKind}
 use Rattle.ff_gc.specs.declared.counts.OperationKind.TheVariants.{Read, Program, Seal, Erase}
 use Rattle.ff_lines.specs.declared.device.Work.{Work}

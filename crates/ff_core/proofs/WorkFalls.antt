@@ -8,7 +8,7 @@ use Rattle.std.proofs.lemmas.Option.{none-some}
 use Rattle.ff_base.specs.declared.numbers.PageNo.{PageNo}
 use Rattle.ff_cache.specs.Cache.{IsCacheSound, way_at}
 use Rattle.ff_cache.specs.Slots.{cache_slot_at, empty_slot, slot_flushed}
-use Rattle.ff_cache.specs.declared.slot.Slot.{Slot as CacheSlot}
+use Rattle.ff_cache.specs.declared.slot.CacheSlot.{CacheSlot}
 use Rattle.ff_device.specs.Device.{DeviceView, own_of, parts_of}
 use Rattle.ff_device.specs.WorkRows.{HasSealed, IsPinnedSet}
 use Rattle.ff_device.proofs.Frames.{frames_by}

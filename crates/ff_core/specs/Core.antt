@@ -3,8 +3,8 @@ use Rattle.std.specs.Prelude.{ℕ, ◌+◌, ◌-◌, ◌∷◌, ◌++◌, [], le
 use Rattle.ff_base.specs.Count.{last_event}
 use Rattle.ff_base.specs.declared.geometry.Geometry.{Geometry}
 use Rattle.ff_base.specs.declared.numbers.Caller.{Caller}
-use Rattle.ff_gc.specs.Counts.{total_of}
-use Rattle.ff_gc.specs.declared.counts.Counts.{Counts as FlashCounts}
+use Rattle.ff_gc.specs.FlashCounts.{total_of}
+use Rattle.ff_gc.specs.declared.counts.FlashCounts.{FlashCounts}
 use Rattle.ff_model.specs.declared.counts.Counts.{Counts}
 use Rattle.ff_model.specs.History.{Entries}
 use Rattle.ff_model.specs.Legal.{Opening}

@@ -4,7 +4,7 @@ use Rattle.ff_base.specs.Count.{last_event}
 use Rattle.ff_base.specs.Geometry.{IsWithinLimits, capacity_of}
 use Rattle.ff_calls.specs.Told.{IsTold}
 use Rattle.ff_evict.specs.Evictor.{IsHandInside}
-use Rattle.ff_gc.specs.declared.counts.Counts.{Counts}
+use Rattle.ff_gc.specs.declared.counts.FlashCounts.{FlashCounts}
 use Rattle.ff_memory.specs.declared.access.What.{What}
 use Rattle.ff_memory.specs.declared.access.What.TheVariants.{Started}
 use Rattle.ff_model.specs.Legal.{next_event}
@@ -94,7 +94,7 @@ faults_told core = core.opening.faults
     + (count_by has_fault core.history.entries + count_by has_failed core.log.turns)
 
 -- no kind of operation was counted more often at the opening than now
-pub record IsSince (from now : Counts) : Type 0 where
+pub record IsSince (from now : FlashCounts) : Type 0 where
   pub reads : from.reads ≤ now.reads
   pub programs : from.programs ≤ now.programs
   pub seals : from.seals ≤ now.seals

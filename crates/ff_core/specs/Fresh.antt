@@ -7,7 +7,7 @@ use Rattle.ff_device.specs.Device.{DeviceView}
 use Rattle.ff_evict.specs.Picker.{PickerView}
 use Rattle.ff_flash.specs.Cells.{erased}
 use Rattle.ff_flash.specs.FlashState.{FlashState}
-use Rattle.ff_gc.specs.Counts.{no_counts}
+use Rattle.ff_gc.specs.FlashCounts.{no_counts}
 use Rattle.ff_memory.specs.Memory.{fresh_memory}
 use Rattle.ff_model.specs.Image.{empty_content}
 use Rattle.ff_model.specs.Legal.{opening_of}

@@ -5,7 +5,7 @@ use Rattle.ff_base.specs.Geometry.{capacity_of}
 use Rattle.ff_base.specs.declared.geometry.Geometry.{Geometry}
 use Rattle.ff_cache.specs.Cache.{CacheView}
 use Rattle.ff_cache.specs.Slots.{held}
-use Rattle.ff_cache.specs.declared.slot.Slot.{Slot}
+use Rattle.ff_cache.specs.declared.slot.CacheSlot.{CacheSlot}
 use Rattle.ff_device.specs.Device.{DeviceView}
 use Rattle.ff_evict.specs.Picker.{PickerView}
 use Rattle.ff_memory.specs.Memory.{MemoryView, fresh_memory}
@@ -23,7 +23,7 @@ use Rattle.ff_core.specs.declared.core_state.Room.{Room}
 
 -- no slot of the cache is pinned
 abbrev pub IsUnpinned : CacheView → Type 0
-IsUnpinned cache = (page : ℕ) (slot : Slot) → held cache.slots page ≡ Some slot → slot.pinned ≡ false
+IsUnpinned cache = (page : ℕ) (slot : CacheSlot) → held cache.slots page ≡ Some slot → slot.pinned ≡ false
 
 -- a store, a cache and marks of this geometry, with the power on and nothing in flight, over which a session may begin at
 -- an event number

@@ -5,7 +5,7 @@ ghost use Rattle.ff_cache.specs.Cache.{fresh_cache};
 ghost use Rattle.ff_memory.specs.Memory.{fresh_memory};
 ghost use Rattle.ff_model.specs.Image.{empty_content};
 ghost use Rattle.ff_table.specs.Table.{fresh_table};
-ghost use Rattle.ff_gc.specs.Counts.{no_counts};
+ghost use Rattle.ff_gc.specs.FlashCounts.{no_counts};
 ghost use Rattle.ff_model.specs.Legal.{opening_of};
 ghost use Rattle.ff_core.specs.Fresh.{IsFreshFlash, fresh_core, fresh_device};
 ghost use Rattle.ff_core.specs.EventTally.{no_tally};
@@ -21,7 +21,7 @@ use ff_device::Device;
 use ff_evict::{Evictor, Pick, Picker};
 use ff_flash::Flash;
 use ff_frames::Frames;
-use ff_gc::Counts;
+use ff_gc::FlashCounts;
 use ff_memory::Memory;
 use ff_model::{History, Image};
 use ff_plb::Plb;
@@ -153,7 +153,7 @@ fn assemble<F: Flash, T: Tune, E: Pick>(
         geometry,
         from_event: 0,
         from_faults,
-        from_counts: Counts::new(),
+        from_counts: FlashCounts::new(),
         history: books.history,
         events: 0,
         log: books.log,

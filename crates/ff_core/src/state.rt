@@ -11,7 +11,7 @@ use crate::tally::EventTally;
 use ff_base::{Geometry, LAST_EVENT};
 use ff_evict::Pick;
 use ff_flash::Flash;
-use ff_gc::Counts as FlashCounts;
+use ff_gc::FlashCounts;
 use ff_model::{Counts, History, Image};
 use ff_policy::Tune;
 use std::marker::Model;

@@ -1,7 +1,7 @@
 -- A device of which the slot of one page was changed, whose bytes stay.
 use Rattle.std.proofs.Common.{◌≡◌, ◌≢◌, inl, inr, ℕ, false, List, length, refl, sym, ap, ◌∙◌, Some}
 use Rattle.std.proofs.lemmas.Bool.{cases_eq}
-use Rattle.ff_cache.specs.declared.slot.Slot.{Slot}
+use Rattle.ff_cache.specs.declared.slot.CacheSlot.{CacheSlot}
 use Rattle.ff_lines.specs.DeviceState.{SameLines}
 use Rattle.ff_lines.proofs.PageCounts.{count_below-same}
 use Rattle.ff_device.specs.Device.{lines_of}
@@ -11,7 +11,7 @@ use Rattle.ff_lines.specs.BlankLine.{line_or_blank}
 use Rattle.ff_device.proofs.Holding.{Changed}
 
 -- the slot of a page was changed, and of the other pages the store has what it had
-pub record Edited (page : ℕ) (slot after : Slot) (old new : Parts) : Type 0 where
+pub record Edited (page : ℕ) (slot after : CacheSlot) (old new : Parts) : Type 0 where
   pub changed : Changed page slot after old.cache.slots new.cache.slots
   pub bytes : after.bytes ≡ slot.bytes
   pub window : new.window ≡ old.window
@@ -20,28 +20,28 @@ pub record Edited (page : ℕ) (slot after : Slot) (old new : Parts) : Type 0 wh
   pub capacity : new.store.capacity ≡ old.store.capacity
   pub written : is_written new page ≡ is_written old page
 
-pub edited_resident : (page : ℕ) (slot after : Slot) (old new : Parts) → Edited page slot after old new
+pub edited_resident : (page : ℕ) (slot after : CacheSlot) (old new : Parts) → Edited page slot after old new
     → (p : ℕ) → is_resident new p ≡ is_resident old p
 edited_resident page slot after old new e p = elim (cases_eq p page) [
   | inl same ↦ rw (same, e.changed.here, e.changed.before) refl
   | inr apart ↦ rw (e.changed.others p apart) refl
 ]
 
-pub edited_below : (page : ℕ) (slot after : Slot) (old new : Parts) → Edited page slot after old new
+pub edited_below : (page : ℕ) (slot after : CacheSlot) (old new : Parts) → Edited page slot after old new
     → (p : ℕ) → page_below new p ≡ page_below old p
 edited_below page slot after old new e p = elim (cases_eq p page) [
   | inl same ↦ rw (same, e.changed.here, e.changed.before) e.bytes
   | inr apart ↦ rw (e.changed.others p apart, e.stored p apart) refl
 ]
 
-pub edited_pinned : (page : ℕ) (slot after : Slot) (old new : Parts) → Edited page slot after old new
+pub edited_pinned : (page : ℕ) (slot after : CacheSlot) (old new : Parts) → Edited page slot after old new
     → after.pinned ≡ slot.pinned → (p : ℕ) → is_pinned new p ≡ is_pinned old p
 edited_pinned page slot after old new e pins p = elim (cases_eq p page) [
   | inl same ↦ rw (same, e.changed.here, e.changed.before) pins
   | inr apart ↦ rw (e.changed.others p apart) refl
 ]
 
-pub edited_written : (page : ℕ) (slot after : Slot) (old new : Parts) → Edited page slot after old new
+pub edited_written : (page : ℕ) (slot after : CacheSlot) (old new : Parts) → Edited page slot after old new
     → (p : ℕ) → is_written new p ≡ is_written old p
 edited_written page slot after old new e p = elim (cases_eq p page) [
   | inl same ↦ rw same e.written
@@ -49,7 +49,7 @@ edited_written page slot after old new e p = elim (cases_eq p page) [
 ]
 
 -- it keeps what a device keeps, where the changed slot and the flush do
-pub edited_sound : (page : ℕ) (slot after : Slot) (old new : Parts) → Edited page slot after old new → IsDeviceSound old
+pub edited_sound : (page : ℕ) (slot after : CacheSlot) (old new : Parts) → Edited page slot after old new → IsDeviceSound old
     → (after.dirty ≡ false → after.bytes ≡ stored_bytes new.store page)
     → ((flush : PendingFlush) → new.store.pending ≡ Some flush → IsFlushing new flush)
     → IsDeviceSound new
@@ -60,7 +60,7 @@ edited_sound page slot after old new e sound clean flushing = record {
     | inl same ↦
         let found : Some after ≡ Some held = sym e.changed.here ∙ ap (λ q. cached new q) (sym same) ∙ is in
         let one : after ≡ held = cc in
-        rw same (rw one at (clean (ap (λ (s : Slot). s.dirty) one ∙ not_dirty)))
+        rw same (rw one at (clean (ap (λ (s : CacheSlot). s.dirty) one ∙ not_dirty)))
     | inr apart ↦
         rw (e.stored p apart) (sound.clean p held (sym (e.changed.others p apart) ∙ is) not_dirty)
   ];
@@ -72,7 +72,7 @@ edited_sound page slot after old new e sound clean flushing = record {
 }
 
 -- no line changes
-pub edited_lines : (page : ℕ) (slot after : Slot) (old new : Parts) → Edited page slot after old new
+pub edited_lines : (page : ℕ) (slot after : CacheSlot) (old new : Parts) → Edited page slot after old new
     → SameLines (lines_of old) (lines_of new)
 edited_lines page slot after old new e = record {
   posts = ap (λ w. w.posts) e.window;
@@ -80,7 +80,7 @@ edited_lines page slot after old new e = record {
 }
 
 -- a flush that waits is of the changed slot or of another
-pub edited_flushing : (page : ℕ) (slot after : Slot) (old new : Parts) → Edited page slot after old new → (flush : PendingFlush)
+pub edited_flushing : (page : ℕ) (slot after : CacheSlot) (old new : Parts) → Edited page slot after old new → (flush : PendingFlush)
     → IsFlushing old flush → after.dirty ≡ slot.dirty → (after.touched ≡ false → slot.touched ≡ false) → IsFlushing new flush
 edited_flushing page slot after old new e flush was dirty touched = elim (cases_eq flush.page page) [
   | inl same ↦
@@ -89,9 +89,9 @@ edited_flushing page slot after old new e flush was dirty touched = elim (cases_
       record {
         slot = after;
         held = ap (λ q. cached new q) same ∙ e.changed.here;
-        dirty = dirty ∙ ap (λ (s : Slot). s.dirty) one ∙ was.dirty;
-        same = λ calm. e.bytes ∙ ap (λ (s : Slot). s.bytes) one
-            ∙ was.same (ap (λ (s : Slot). s.touched) (sym one) ∙ touched calm);
+        dirty = dirty ∙ ap (λ (s : CacheSlot). s.dirty) one ∙ was.dirty;
+        same = λ calm. e.bytes ∙ ap (λ (s : CacheSlot). s.bytes) one
+            ∙ was.same (ap (λ (s : CacheSlot). s.touched) (sym one) ∙ touched calm);
       }
   | inr apart ↦
       record { slot = was.slot; held = e.changed.others flush.page apart ∙ was.held; dirty = was.dirty; same = was.same }

@@ -8,7 +8,7 @@ use Rattle.std.proofs.lemmas.List.{get_or_past}
 use Rattle.ff_base.specs.declared.numbers.PageNo.{PageNo}
 use Rattle.ff_cache.specs.Cache.{is_full_set, set_of, values_of, way_at, IsCacheSound}
 use Rattle.ff_cache.specs.Slots.{empty_slot, held, holds, cache_slot_at, slot_flushed, slot_flushing}
-use Rattle.ff_cache.specs.declared.slot.Slot.{Slot}
+use Rattle.ff_cache.specs.declared.slot.CacheSlot.{CacheSlot}
 use Rattle.ff_lines.specs.declared.post.Post.{Post}
 use Rattle.ff_device.specs.Draining.{SameFrames}
 use Rattle.ff_device.specs.Parts.{is_resident, Parts}
@@ -32,7 +32,7 @@ pub steps_full : (parts : Parts) (page : ℕ) (way : Option ℕ) → is_full_set
     → steps_of_set parts page ≡ steps_of_way parts page way
 steps_full parts page way full choice = rw (full, choice) refl
 
-not_clean : (pending : Option PendingFlush) (slot : Slot) → pending ≡ None → slot.dirty ≡ true → soon_clean pending slot ≡ false
+not_clean : (pending : Option PendingFlush) (slot : CacheSlot) → pending ≡ None → slot.dirty ≡ true → soon_clean pending slot ≡ false
 not_clean pending slot idle dirty = rw (idle, dirty) refl
 
 -- the steps where the chosen way is dirty and no flush waits
@@ -68,7 +68,7 @@ or_false : (b : Bool) → (b || false) ≡ b
 or_false true = refl
 or_false false = refl
 
-pub flushing_soon : (page : ℕ) (bytes : List ℕ) (slot : Slot) → holds slot page ≡ true
+pub flushing_soon : (page : ℕ) (bytes : List ℕ) (slot : CacheSlot) → holds slot page ≡ true
     → soon_clean (Some (record { page = page; bytes = bytes })) (slot_flushing slot) ≡ true
 flushing_soon page bytes slot is = rw is (or_right_true (not slot.dirty))
 
@@ -94,7 +94,7 @@ some_way : (o : Option ℕ) → is_some o ≡ true → (way : ℕ) × (o ≡ Som
 some_way None is = absurd (cc)
 some_way (Some way) is = (way, refl)
 
-slot_most : (store : StoreState) (slot : Slot) → store.pending ≡ None → steps_of_slot store slot ≤ store.left + 2
+slot_most : (store : StoreState) (slot : CacheSlot) → store.pending ≡ None → steps_of_slot store slot ≤ store.left + 2
 slot_most store slot idle = elim (cases_Bool (soon_clean store.pending slot)) [
   | inl soon ↦ rw soon (omega arith)
   | inr late ↦ rw (late, idle) (omega arith)
@@ -104,7 +104,7 @@ no_page_waits : (found : Option PageNo) → page_waits [] found ≡ false
 no_page_waits None = refl
 no_page_waits (Some page) = refl
 
-unpinned_goes : (posts : List Post) (slot : Slot) → posts ≡ [] → slot.pinned ≡ false → may_go posts slot ≡ true
+unpinned_goes : (posts : List Post) (slot : CacheSlot) → posts ≡ [] → slot.pinned ≡ false → may_go posts slot ≡ true
 unpinned_goes posts slot none unpinned = rw (none, unpinned, no_page_waits slot.page) refl
 
 -- the window was drained, since no way might give way
@@ -130,11 +130,11 @@ drained_falls old new page sound absent still idle full none free frames posts s
     let left : new.store.left ≡ old.store.left = ap (λ s. s.left) store in
     omega arith
 
-sealed_here : (flush : PendingFlush) (slot : Slot) → slot.dirty ≡ true → holds slot flush.page ≡ true
+sealed_here : (flush : PendingFlush) (slot : CacheSlot) → slot.dirty ≡ true → holds slot flush.page ≡ true
     → soon_clean None (slot_flushed slot) ≡ soon_clean (Some flush) slot
 sealed_here flush slot dirty is = rw (dirty, is) (or_false (not slot.touched))
 
-sealed_there : (flush : PendingFlush) (slot : Slot) → holds slot flush.page ≡ false → soon_clean None slot ≡ soon_clean (Some flush) slot
+sealed_there : (flush : PendingFlush) (slot : CacheSlot) → holds slot flush.page ≡ false → soon_clean None slot ≡ soon_clean (Some flush) slot
 sealed_there flush slot is = rw is refl
 
 -- a slot is clean after the seal where it was soon to be
@@ -142,7 +142,7 @@ sealed_soon : (page : ℕ) (old new : Parts) → (s : Sealing page old new) → 
     → soon_clean None (cache_slot_at new.cache.slots k) ≡ soon_clean (Some s.seals.flush) (cache_slot_at old.cache.slots k)
 sealed_soon page old new s k =
     let index : ℕ = s.ends.index in
-    let slot : Slot = sealing_slot page old new s in
+    let slot : CacheSlot = sealing_slot page old new s in
     let own : holds slot s.seals.flush.page ≡ true = rw s.seals.page_is s.ends.holds in
     elim (cases_eq k index) [
       | inl same ↦
@@ -165,7 +165,7 @@ either_less : (full : Bool) (n m : ℕ) → n ≤ m → (if full then n else 0) 
 either_less true n m less = less
 either_less false n m less = omega arith
 
-slot_less : (a b : StoreState) (one other : Slot) → soon_clean a.pending one ≡ soon_clean b.pending other → flush_steps a ≤ flush_steps b
+slot_less : (a b : StoreState) (one other : CacheSlot) → soon_clean a.pending one ≡ soon_clean b.pending other → flush_steps a ≤ flush_steps b
     → steps_of_slot a one ≤ steps_of_slot b other
 slot_less a b one other same less = rw same (less_if (soon_clean b.pending other) (flush_steps a) (flush_steps b) less)
 

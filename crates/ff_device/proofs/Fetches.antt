@@ -4,7 +4,7 @@ use Rattle.std.proofs.lemmas.Bool.{and_parts, cases_Bool, cases_eq, eq-eqb, not-
 use Rattle.ff_base.specs.declared.numbers.PageNo.{PageNo}
 use Rattle.ff_cache.specs.Cache.{IsCacheSound, IsInSet}
 use Rattle.ff_cache.specs.Slots.{held, holds, is_page, cache_slot_at, slot_filled}
-use Rattle.ff_cache.specs.declared.slot.Slot.{Slot}
+use Rattle.ff_cache.specs.declared.slot.CacheSlot.{CacheSlot}
 use Rattle.ff_lines.specs.Posts.{waits_in}
 use Rattle.ff_lines.specs.declared.post.Post.{Post}
 use Rattle.ff_lines.proofs.PageCounts.{count_below-same}
@@ -27,7 +27,7 @@ pub record Fetching (page slot : ℕ) (old new : Parts) : Type 0 where
   pub fetched : IsFetched page slot old new
   pub capacity : new.store.capacity ≡ old.store.capacity
 
-abbrev gone_of : (slot : ℕ) (old : Parts) → Slot
+abbrev gone_of : (slot : ℕ) (old : Parts) → CacheSlot
 gone_of slot old = cache_slot_at old.cache.slots slot
 
 pub fetching_replaced : (page slot : ℕ) (old new : Parts) → Fetching page slot old new
@@ -136,7 +136,7 @@ fetching_in_range page slot old new f p is =
       ]
     ])
 
-fetching_clean : (page slot : ℕ) (old new : Parts) → Fetching page slot old new → (p : ℕ) (held : Slot) → cached new p ≡ Some held
+fetching_clean : (page slot : ℕ) (old new : Parts) → Fetching page slot old new → (p : ℕ) (held : CacheSlot) → cached new p ≡ Some held
     → held.dirty ≡ false → held.bytes ≡ stored_bytes new.store p
 fetching_clean page slot old new f p held is clean =
     let r = fetching_replaced page slot old new f in
@@ -144,7 +144,7 @@ fetching_clean page slot old new f p held is clean =
       | inl same ↦
           let both : Some (slot_filled page (stored_bytes old.store page)) ≡ Some held = sym r.here ∙ ap (λ q. cached new q) (sym same) ∙ is in
           let one : slot_filled page (stored_bytes old.store page) ≡ held = cc in
-          rw same (ap (λ (s : Slot). s.bytes) (sym one))
+          rw same (ap (λ (s : CacheSlot). s.bytes) (sym one))
       | inr apart ↦ elim (cases_Bool (holds (gone_of slot old) p)) [
         | inl gone ↦ let none : None ≡ Some held = sym (r.left p gone) ∙ is in absurd (cc)
         | inr kept ↦ f.sound.clean p held (sym (r.others p apart kept) ∙ is) clean

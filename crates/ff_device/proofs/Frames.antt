@@ -7,7 +7,7 @@ use Rattle.std.specs.Prelude.{option_map}
 use Rattle.ff_base.specs.declared.numbers.PageNo.{PageNo}
 use Rattle.ff_cache.specs.Cache.{all_below, is_full_set, values_of, way_at, CacheView}
 use Rattle.ff_cache.specs.Slots.{empty_slot, is_empty, cache_slot_at}
-use Rattle.ff_cache.specs.declared.slot.Slot.{Slot}
+use Rattle.ff_cache.specs.declared.slot.CacheSlot.{CacheSlot}
 use Rattle.ff_cache.proofs.Full.{all_below_at}
 use Rattle.ff_device.specs.Changes.{Changes}
 use Rattle.ff_device.specs.Chosen.{chosen, Candidate}
@@ -18,10 +18,10 @@ use Rattle.ff_device.specs.Steps.{chosen_way, may_go_at}
 use Rattle.ff_device.proofs.Oldest.{oldest_same}
 
 -- a slot was changed, and keeps its page and its pin
-pub frames_by : (page : ℕ) (change : Slot → Slot) (old new : CacheView) → Changes page change old new
-    → ((slot : Slot) → (change slot).page ≡ slot.page) → ((slot : Slot) → (change slot).pinned ≡ slot.pinned) → SameFrames old new
+pub frames_by : (page : ℕ) (change : CacheSlot → CacheSlot) (old new : CacheView) → Changes page change old new
+    → ((slot : CacheSlot) → (change slot).page ≡ slot.page) → ((slot : CacheSlot) → (change slot).pinned ≡ slot.pinned) → SameFrames old new
 frames_by page change old new changes pages pins =
-    let slot : Slot = cache_slot_at old.slots changes.index in
+    let slot : CacheSlot = cache_slot_at old.slots changes.index in
     record {
       values = ap (λ c. c.values) changes.is;
       sets = ap (λ c. c.sets) changes.is;
@@ -37,15 +37,15 @@ frames_by page change old new changes pages pins =
     }
 
 -- a slot was changed, and keeps its page
-pages_kept : (page : ℕ) (change : Slot → Slot) (old new : CacheView) → Changes page change old new
-    → ((slot : Slot) → (change slot).page ≡ slot.page) → pages_in new ≡ pages_in old
+pages_kept : (page : ℕ) (change : CacheSlot → CacheSlot) (old new : CacheView) → Changes page change old new
+    → ((slot : CacheSlot) → (change slot).page ≡ slot.page) → pages_in new ≡ pages_in old
 pages_kept page change old new changes pages =
-    let slot : Slot = cache_slot_at old.slots changes.index in
-    rw changes.is (map-set_same (λ (s : Slot). s.page) old.slots changes.index (change slot) empty_slot (pages slot))
+    let slot : CacheSlot = cache_slot_at old.slots changes.index in
+    rw changes.is (map-set_same (λ (s : CacheSlot). s.page) old.slots changes.index (change slot) empty_slot (pages slot))
 
 -- so were the store and the sizes
-pub own_kept : (page : ℕ) (change : Slot → Slot) (old new : DeviceView) → Changes page change old.cache new.cache
-    → ((slot : Slot) → (change slot).page ≡ slot.page) → new.store ≡ old.store → new.window.room ≡ old.window.room
+pub own_kept : (page : ℕ) (change : CacheSlot → CacheSlot) (old new : DeviceView) → Changes page change old.cache new.cache
+    → ((slot : CacheSlot) → (change slot).page ≡ slot.page) → new.store ≡ old.store → new.window.room ≡ old.window.room
     → own_of new ≡ own_of old
 own_kept page change old new changes pages store room =
     rw (

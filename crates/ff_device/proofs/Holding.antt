@@ -4,22 +4,22 @@ use Rattle.std.proofs.lemmas.Bool.{cases_eq, false_from_ne_true}
 use Rattle.std.proofs.lemmas.List.Folds.{find_past}
 use Rattle.ff_cache.specs.Cache.{CacheView, IsCacheSound}
 use Rattle.ff_cache.specs.Slots.{empty_slot, held, holds, cache_slot_at}
-use Rattle.ff_cache.specs.declared.slot.Slot.{Slot}
+use Rattle.ff_cache.specs.declared.slot.CacheSlot.{CacheSlot}
 use Rattle.ff_cache.proofs.Held.{held_first, held_none, holds_one, none_holds}
 use Rattle.ff_device.specs.Changes.{Changes}
 
 -- the slot of a page was changed
-pub record Changed (page : ℕ) (slot after : Slot) (old new : List Slot) : Type 0 where
+pub record Changed (page : ℕ) (slot after : CacheSlot) (old new : List CacheSlot) : Type 0 where
   pub before : held old page ≡ Some slot
   pub here : held new page ≡ Some after
   pub others : (p : ℕ) → p ≢ page → held new p ≡ held old p
 
 -- a slot of the cache was changed, and holds the same page
-pub changed_at : (cache : CacheView) (page k : ℕ) (after : Slot) → IsCacheSound cache → k < length cache.slots
+pub changed_at : (cache : CacheView) (page k : ℕ) (after : CacheSlot) → IsCacheSound cache → k < length cache.slots
     → holds (cache_slot_at cache.slots k) page ≡ true → holds after page ≡ true → held cache.slots page ≡ Some (cache_slot_at cache.slots k)
     → Changed page (cache_slot_at cache.slots k) after cache.slots (set cache.slots k after)
 changed_at cache page k after sound within is also before =
-    let slots : List Slot = cache.slots in
+    let slots : List CacheSlot = cache.slots in
     let same : cache_slot_at (set slots k after) k ≡ after = get_or-set_same slots k after empty_slot within in
     let size : length (set slots k after) ≡ length slots = length-set slots k after in
     let inside : k < length (set slots k after) = omega arith in
@@ -30,13 +30,13 @@ changed_at cache page k after sound within is also before =
     let one : j ≡ k = sound.slots.unique j k page (omega arith) within twice is in absurd (omega arith)))) in
     record {
       before = before;
-      here = found ∙ ap (λ (slot : Slot). Some slot) same;
+      here = found ∙ ap (λ (slot : CacheSlot). Some slot) same;
       others = λ p apart. find_past (λ slot. holds slot p) slots k after empty_slot
           (holds_one (cache_slot_at slots k) page p is apart) (holds_one after page p also apart);
     }
 
 -- the slot of a page was changed
-pub changed_by : (page : ℕ) (change : Slot → Slot) (old new : CacheView) → IsCacheSound old → (changes : Changes page change old new)
+pub changed_by : (page : ℕ) (change : CacheSlot → CacheSlot) (old new : CacheView) → IsCacheSound old → (changes : Changes page change old new)
     → (change (cache_slot_at old.slots changes.index)).page ≡ (cache_slot_at old.slots changes.index).page
     → Changed page (cache_slot_at old.slots changes.index) (change (cache_slot_at old.slots changes.index)) old.slots new.slots
 changed_by page change old new sound changes same =
@@ -44,18 +44,18 @@ changed_by page change old new sound changes same =
     (rw same changes.holds) changes.held)
 
 -- a slot was filled with a page that was held nowhere
-pub record Replaced (page : ℕ) (gone filled : Slot) (old new : List Slot) : Type 0 where
+pub record Replaced (page : ℕ) (gone filled : CacheSlot) (old new : List CacheSlot) : Type 0 where
   pub absent : held old page ≡ None
   pub here : held new page ≡ Some filled
   pub was : (p : ℕ) → holds gone p ≡ true → held old p ≡ Some gone
   pub left : (p : ℕ) → holds gone p ≡ true → held new p ≡ None
   pub others : (p : ℕ) → p ≢ page → holds gone p ≡ false → held new p ≡ held old p
 
-pub replaced_at : (cache : CacheView) (page k : ℕ) (filled : Slot) → IsCacheSound cache → k < length cache.slots
+pub replaced_at : (cache : CacheView) (page k : ℕ) (filled : CacheSlot) → IsCacheSound cache → k < length cache.slots
     → held cache.slots page ≡ None → holds filled page ≡ true
     → Replaced page (cache_slot_at cache.slots k) filled cache.slots (set cache.slots k filled)
 replaced_at cache page k filled sound within absent is =
-    let slots : List Slot = cache.slots in
+    let slots : List CacheSlot = cache.slots in
     let same : cache_slot_at (set slots k filled) k ≡ filled = get_or-set_same slots k filled empty_slot within in
     let size : length (set slots k filled) ≡ length slots = length-set slots k filled in
     let inside : k < length (set slots k filled) = omega arith in
@@ -65,7 +65,7 @@ replaced_at cache page k filled sound within absent is =
     rw (get_or-set_other slots k j filled empty_slot apart) (none_holds slots page j absent (omega arith))) in
     record {
       absent = absent;
-      here = found ∙ ap (λ (slot : Slot). Some slot) same;
+      here = found ∙ ap (λ (slot : CacheSlot). Some slot) same;
       was = λ p holds_it. held_first slots p k within holds_it (λ j below. false_from_ne_true (holds (cache_slot_at slots j) p) (λ twice.
           let one : j ≡ k = sound.slots.unique j k p (omega arith) within twice holds_it in absurd (omega arith)));
       left = λ p holds_it. held_none (set slots k filled) p (λ j below. elim (cases_eq j k) [

@@ -1,6 +1,6 @@
 -- What a step of work keeps of the lines.
 use Rattle.std.proofs.Common.{◌≡◌, ◌≤◌, inl, inr, ℕ, ◌+◌, ◌⊎◌, true, List, length, refl, ap, ◌∙◌, arith}
-use Rattle.ff_cache.specs.declared.slot.Slot.{Slot}
+use Rattle.ff_cache.specs.declared.slot.CacheSlot.{CacheSlot}
 use Rattle.ff_lines.specs.BlankLine.{line_or_blank}
 use Rattle.ff_lines.specs.DeviceState.{DeviceState, IsDrained}
 use Rattle.ff_lines.specs.Posts.{waits_in}
@@ -26,7 +26,7 @@ pub record Keeps (old new : Parts) : Type 0 where
   pub pages : length new.store.pages ≡ length old.store.pages
   pub room : new.window.room ≡ old.window.room
 
-pub edited_keeps : (page : ℕ) (slot after : Slot) (old new : Parts) → Edited page slot after old new → after.pinned ≡ slot.pinned → Keeps old new
+pub edited_keeps : (page : ℕ) (slot after : CacheSlot) (old new : Parts) → Edited page slot after old new → after.pinned ≡ slot.pinned → Keeps old new
 edited_keeps page slot after old new e pins = record {
   posts = ap (λ w. w.posts) e.window;
   below = λ p line. ap (λ (bytes : List ℕ). line_or_blank bytes line) (edited_below page slot after old new e p);

@@ -4,7 +4,7 @@ use Rattle.std.proofs.lemmas.Bool.{cases_eq, eq-eqb, ne_eqb, or_left, or_right}
 use Rattle.std.proofs.lemmas.List.Elements.{All-head, All-tail}
 use Rattle.ff_cache.specs.Cache.{CacheView, IsCacheSound}
 use Rattle.ff_cache.specs.Slots.{empty_slot, cache_slot_at}
-use Rattle.ff_cache.specs.declared.slot.Slot.{Slot}
+use Rattle.ff_cache.specs.declared.slot.CacheSlot.{CacheSlot}
 use Rattle.ff_lines.specs.Posts.{laid_on, waits_in, IsPost}
 use Rattle.ff_lines.specs.declared.post.Post.{Post}
 use Rattle.ff_lines.proofs.PageCounts.{count_below-same}
@@ -25,7 +25,7 @@ pub record Laying (post : Post) (old new : Parts) : Type 0 where
   pub store : new.store ≡ old.store
 
 -- the slot before, and what is known of it after
-abbrev slot_of : (post : Post) (old new : Parts) → Laying post old new → Slot
+abbrev slot_of : (post : Post) (old new : Parts) → Laying post old new → CacheSlot
 slot_of post old new l = cache_slot_at old.cache.slots l.lays.index
 
 laying_changed : (post : Post) (old new : Parts) → (l : Laying post old new)
@@ -114,7 +114,7 @@ laying_size post old new l p =
       | inr apart ↦ rw (c.others p apart, l.store) (l.sound.size p)
     ]
 
-laying_clean : (post : Post) (old new : Parts) → Laying post old new → (p : ℕ) (held : Slot) → cached new p ≡ Some held
+laying_clean : (post : Post) (old new : Parts) → Laying post old new → (p : ℕ) (held : CacheSlot) → cached new p ≡ Some held
     → held.dirty ≡ false → held.bytes ≡ stored_bytes new.store p
 laying_clean post old new l p held is clean =
     let c = laying_changed post old new l in
@@ -122,7 +122,7 @@ laying_clean post old new l p held is clean =
       | inl same ↦
           let found : Some (slot_after post (slot_of post old new l)) ≡ Some held = sym c.here ∙ ap (λ q. cached new q) (sym same) ∙ is in
           let one : slot_after post (slot_of post old new l) ≡ held = cc in
-          let dirty : true ≡ false = ap (λ (s : Slot). s.dirty) one ∙ clean in
+          let dirty : true ≡ false = ap (λ (s : CacheSlot). s.dirty) one ∙ clean in
           absurd (cc)
       | inr apart ↦ rw l.store (l.sound.clean p held (sym (c.others p apart) ∙ is) clean)
     ]

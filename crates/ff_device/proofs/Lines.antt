@@ -6,7 +6,7 @@ use Rattle.std.proofs.lemmas.Bool.{cases_eq, eq-eqb, ne_eqb, or_cases, eqb-true}
 use Rattle.std.proofs.lemmas.List.Elements.{All-append, All-cons, All-nil}
 use Rattle.std.proofs.lemmas.List.Folds.{list_any-append}
 use Rattle.ff_cache.specs.Cache.{is_full_set, way_at}
-use Rattle.ff_cache.specs.declared.slot.Slot.{Slot}
+use Rattle.ff_cache.specs.declared.slot.CacheSlot.{CacheSlot}
 use Rattle.ff_lines.specs.DeviceState.{IsDevice}
 use Rattle.ff_lines.specs.PageSets.{count_below, with_page}
 use Rattle.ff_lines.specs.Posts.{waits_in, IsPost}
@@ -58,7 +58,7 @@ zero_or_more : (resident : Bool) (n : ℕ) → ((if resident then 0 else suc n) 
 zero_or_more true n = (λ _. refl, λ _. refl)
 zero_or_more false n = (λ h. absurd (omega arith), λ h. cc)
 
-pinned_held : (held : Option Slot) → slot_passes (λ slot. slot.pinned) held ≡ true → is_some held ≡ true
+pinned_held : (held : Option CacheSlot) → slot_passes (λ slot. slot.pinned) held ≡ true → is_some held ≡ true
 pinned_held None is = cc
 pinned_held (Some slot) is = refl
 

@@ -3,7 +3,7 @@ use Rattle.std.proofs.Common.{◌≡◌, inl, inr, ℕ, ◌+◌, Bool, length, r
 use Rattle.std.proofs.lemmas.Bool.{cases_eq, eq-eqb, ne_eqb}
 use Rattle.ff_cache.specs.Cache.{IsCacheSound}
 use Rattle.ff_cache.specs.Slots.{cache_slot_at, slot_pinned}
-use Rattle.ff_cache.specs.declared.slot.Slot.{Slot}
+use Rattle.ff_cache.specs.declared.slot.CacheSlot.{CacheSlot}
 use Rattle.ff_lines.specs.DeviceState.{IsPinned}
 use Rattle.ff_device.specs.Changes.{Changes}
 use Rattle.ff_device.specs.Device.{lines_of}
@@ -18,7 +18,7 @@ pub record Pinning (page : ℕ) (on : Bool) (old new : Parts) : Type 0 where
   pub store : new.store ≡ old.store
   pub window : new.window ≡ old.window
 
-abbrev slot_of : (page : ℕ) (on : Bool) (old new : Parts) → Pinning page on old new → Slot
+abbrev slot_of : (page : ℕ) (on : Bool) (old new : Parts) → Pinning page on old new → CacheSlot
 slot_of page on old new p = cache_slot_at old.cache.slots p.pins.index
 
 pinning_edited : (page : ℕ) (on : Bool) (old new : Parts) → (p : Pinning page on old new)

@@ -5,7 +5,7 @@ use Rattle.std.proofs.lemmas.Bool.{eq-eqb, eqb-true, or_cases, or_left}
 use Rattle.ff_base.specs.declared.numbers.PageNo.{PageNo}
 use Rattle.ff_cache.specs.Cache.{IsCacheSound}
 use Rattle.ff_cache.specs.Slots.{held, holds, cache_slot_at, slot_flushing}
-use Rattle.ff_cache.specs.declared.slot.Slot.{Slot}
+use Rattle.ff_cache.specs.declared.slot.CacheSlot.{CacheSlot}
 use Rattle.ff_cache.proofs.Sets.{slot_of_page}
 use Rattle.ff_lines.specs.PageSets.{count_below, with_page}
 use Rattle.ff_lines.specs.Posts.{waits_in}
@@ -30,7 +30,7 @@ dirty_holds slot page old d = rw d.is (eq-eqb page.0 page.0 refl)
 pub dirty_cached : (slot : ℕ) (page : PageNo) (old : Parts) → IsDirtySlot slot page old → cached old page.0 ≡ Some (cache_slot_at old.cache.slots slot)
 dirty_cached slot page old d = (slot_of_page old.cache page.0 slot d.cache d.within (dirty_holds slot page old d)).held
 
-some_held : (o : Option Slot) (slot : Slot) → o ≡ Some slot → IsSome o
+some_held : (o : Option CacheSlot) (slot : CacheSlot) → o ≡ Some slot → IsSome o
 some_held None slot is = absurd (cc)
 some_held (Some found) slot is = refl
 
@@ -93,7 +93,7 @@ programming_edited slot page old new p =
 pub programming_sound : (slot : ℕ) (page : PageNo) (old new : Parts) → Programming slot page old new → IsDeviceSound new
 programming_sound slot page old new p =
     let e = programming_edited slot page old new p in
-    let found : Slot = cache_slot_at old.cache.slots slot in
+    let found : CacheSlot = cache_slot_at old.cache.slots slot in
     edited_sound page.0 found (slot_flushing found) old new e p.slot_is.sound
     (λ clean. let both : true ≡ false = sym p.slot_is.dirty ∙ clean in absurd (cc))
     (λ flush is.

@@ -4,7 +4,7 @@ use Rattle.std.specs.Option.{is_some}
 use Rattle.std.specs.Prelude.{IsSome}
 use Rattle.ff_cache.specs.Cache.{IsCacheSound}
 use Rattle.ff_cache.specs.Slots.{held, cache_slot_at, slot_flushed}
-use Rattle.ff_cache.specs.declared.slot.Slot.{Slot}
+use Rattle.ff_cache.specs.declared.slot.CacheSlot.{CacheSlot}
 use Rattle.ff_lines.specs.Posts.{waits_in}
 use Rattle.ff_device.specs.Changes.{Changes}
 use Rattle.ff_device.specs.Parts.{cached, is_written, IsDeviceSound, Parts}
@@ -13,7 +13,7 @@ use Rattle.ff_device.specs.StoreSteps.{StoresPage}
 use Rattle.ff_device.proofs.Edits.{edited_sound, Edited}
 use Rattle.ff_device.proofs.Holding.{changed_by}
 
-some_held : (o : Option Slot) (slot : Slot) → o ≡ Some slot → IsSome o
+some_held : (o : Option CacheSlot) (slot : CacheSlot) → o ≡ Some slot → IsSome o
 some_held None slot is = absurd (cc)
 some_held (Some found) slot is = refl
 
@@ -33,7 +33,7 @@ pub record Sealing (page : ℕ) (old new : Parts) : Type 0 where
   pub window : new.window ≡ old.window
   pub capacity : new.store.capacity ≡ old.store.capacity
 
-abbrev pub sealing_slot : (page : ℕ) (old new : Parts) → Sealing page old new → Slot
+abbrev pub sealing_slot : (page : ℕ) (old new : Parts) → Sealing page old new → CacheSlot
 sealing_slot page old new s = cache_slot_at old.cache.slots s.ends.index
 
 sealing_within : (page : ℕ) (old new : Parts) → Sealing page old new → page < length old.store.pages

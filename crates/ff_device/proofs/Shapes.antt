@@ -1,7 +1,7 @@
 -- No step changes the sizes of the cache and of the window.
 use Rattle.std.proofs.Common.{◌≡◌, ℕ, inl, inr, refl, ap, ◌∙◌}
 use Rattle.ff_cache.specs.Cache.{CacheView}
-use Rattle.ff_cache.specs.declared.slot.Slot.{Slot}
+use Rattle.ff_cache.specs.declared.slot.CacheSlot.{CacheSlot}
 use Rattle.ff_lines.specs.declared.device.Work.{Work}
 use Rattle.ff_lines.specs.declared.device.Work.TheVariants.{Ready, Stepped, Pinned, Failed, Off}
 use Rattle.ff_window.specs.Window.{WindowView}
@@ -24,7 +24,7 @@ stopped_shape old new s = record {
   room = room_same old.window new.window s.window;
 }
 
-changes_shape : (page : ℕ) (change : Slot → Slot) (old new : Parts) → Changes page change old.cache new.cache
+changes_shape : (page : ℕ) (change : CacheSlot → CacheSlot) (old new : Parts) → Changes page change old.cache new.cache
     → new.window ≡ old.window → SameShape old new
 changes_shape page change old new changes window = record {
   sets = ap (λ (c : CacheView). c.sets) changes.is;

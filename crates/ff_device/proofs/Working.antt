@@ -6,7 +6,7 @@ use Rattle.std.proofs.lemmas.Bool.{cases_Bool, eq-eqb}
 use Rattle.ff_base.specs.declared.numbers.PageNo.{PageNo}
 use Rattle.ff_cache.specs.Cache.{first_of, is_full_set, way_at, CacheView, IsCacheSound, IsEmptyWay, IsInSet}
 use Rattle.ff_cache.specs.Slots.{empty_slot, held, holds, cache_slot_at, slot_flushed, slot_flushing}
-use Rattle.ff_cache.specs.declared.slot.Slot.{Slot}
+use Rattle.ff_cache.specs.declared.slot.CacheSlot.{CacheSlot}
 use Rattle.ff_cache.proofs.Sets.{set_fits, slot_of_page}
 use Rattle.ff_lines.specs.Works.{KeepsLines, Works}
 use Rattle.ff_lines.specs.declared.device.Work.{Work}
@@ -34,7 +34,7 @@ use Rattle.ff_device.proofs.Touching.{sound_values, with_values}
 absent_no : (parts : Parts) (page : ℕ) → held parts.cache.slots page ≡ None → is_resident parts page ≡ false
 absent_no parts page absent = rw absent refl
 
-none_of : (o : Option Slot) → is_some o ≡ false → o ≡ None
+none_of : (o : Option CacheSlot) → is_some o ≡ false → o ≡ None
 none_of None is = refl
 none_of (Some slot) is = absurd (cc)
 
@@ -151,7 +151,7 @@ programmed_soon page slot way old new w v p =
     let same : p.cache.index ≡ slot =
     w.cache.slots.unique p.cache.index slot p.page.0 p.cache.within v.within p.cache.holds own in
     let there : first_of old.cache page + way ≡ p.cache.index = sym v.slot_is ∙ sym same in
-    let found : Slot = cache_slot_at old.cache.slots p.cache.index in
+    let found : CacheSlot = cache_slot_at old.cache.slots p.cache.index in
     let way_is : way_at new.cache page way ≡ slot_flushing found =
     rw (p.cache.is, there, get_or-set_same old.cache.slots p.cache.index (slot_flushing found) empty_slot p.cache.within) refl in
     rw (p.pending, way_is) (flushing_soon p.page.0 (cache_slot_at old.cache.slots slot).bytes found p.cache.holds)
@@ -161,7 +161,7 @@ programmed_row : (page slot way : ℕ) (old new : Parts) → Working page old ne
 programmed_row page slot way old new w v p =
     let programming = programming_of page slot way old new w v p in
     let edited = programming_edited slot p.page old new programming in
-    let found : Slot = cache_slot_at old.cache.slots slot in
+    let found : CacheSlot = cache_slot_at old.cache.slots slot in
     let frames : SameFrames old.cache new.cache = frames_by p.page.0 slot_flushing old.cache new.cache p.cache (λ s. refl) (λ s. refl) in
     let still : held new.cache.slots page ≡ None =
     none_of (held new.cache.slots page)
@@ -339,8 +339,8 @@ pub raised_step : (page slot : ℕ) (result : Work) (old mid new : Parts) → ol
 raised_step page slot result old mid new idle full raised dirty clean =
     let same : cache_slot_at mid.cache.slots slot ≡ cache_slot_at old.cache.slots slot = ap (λ m. cache_slot_at m.cache.slots slot) raised.is in
     elim (cases_Bool (cache_slot_at old.cache.slots slot).dirty) [
-      | inl is ↦ flushes idle full slot mid raised is (dirty (ap (λ (s : Slot). s.dirty) same ∙ is))
-      | inr is ↦ replaces idle full slot mid raised is (clean (ap (λ (s : Slot). s.dirty) same ∙ is))
+      | inl is ↦ flushes idle full slot mid raised is (dirty (ap (λ (s : CacheSlot). s.dirty) same ∙ is))
+      | inr is ↦ replaces idle full slot mid raised is (clean (ap (λ (s : CacheSlot). s.dirty) same ∙ is))
     ]
 
 -- the chosen slot is one of the set, and may give way
@@ -364,6 +364,6 @@ pub pending_none : (waits : Option PendingFlush) → is_some waits ≡ false →
 pending_none None is = refl
 pending_none (Some flush) is = absurd (cc)
 
-pub absent_of : (held : Option Slot) → is_some held ≡ false → held ≡ None
+pub absent_of : (held : Option CacheSlot) → is_some held ≡ false → held ≡ None
 absent_of None is = refl
 absent_of (Some slot) is = absurd (cc)

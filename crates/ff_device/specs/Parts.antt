@@ -4,7 +4,7 @@ use Rattle.std.specs.Option.{is_some}
 use Rattle.ff_base.specs.declared.numbers.TheConstants.{PAGE_BYTES}
 use Rattle.ff_cache.specs.Cache.{CacheView}
 use Rattle.ff_cache.specs.Slots.{held}
-use Rattle.ff_cache.specs.declared.slot.Slot.{Slot}
+use Rattle.ff_cache.specs.declared.slot.CacheSlot.{CacheSlot}
 use Rattle.ff_lines.specs.BlankLine.{line_or_blank}
 use Rattle.ff_lines.specs.PageSets.{count_below}
 use Rattle.ff_lines.specs.Posts.{waits_in, IsPost}
@@ -24,11 +24,11 @@ pub record SameShape (old new : Parts) : Type 0 where
   pub room : new.window.room ≡ old.window.room
 
 -- the slot that holds a page
-abbrev pub cached : Parts → ℕ → Option Slot
+abbrev pub cached : Parts → ℕ → Option CacheSlot
 cached parts page = held parts.cache.slots page
 
 -- the bytes of a page: those of its slot, or else those of the store
-abbrev pub bytes_over : Option Slot → List ℕ → List ℕ
+abbrev pub bytes_over : Option CacheSlot → List ℕ → List ℕ
 bytes_over None below = below
 bytes_over (Some slot) below = slot.bytes
 
@@ -39,7 +39,7 @@ abbrev pub line_below : Parts → ℕ → ℕ → List ℕ
 line_below parts page line = line_or_blank (page_below parts page) line
 
 -- there is a slot, and it passes a test
-abbrev pub slot_passes : (Slot → Bool) → Option Slot → Bool
+abbrev pub slot_passes : (CacheSlot → Bool) → Option CacheSlot → Bool
 slot_passes test None = false
 slot_passes test (Some slot) = test slot
 
@@ -59,7 +59,7 @@ is_written parts page =
 
 -- the flush that is to be sealed is of a dirty slot, which holds the programmed bytes unless it was touched since
 pub record IsFlushing (parts : Parts) (flush : PendingFlush) : Type 0 where
-  pub slot : Slot
+  pub slot : CacheSlot
   pub held : cached parts flush.page ≡ Some slot
   pub dirty : slot.dirty ≡ true
   pub same : slot.touched ≡ false → slot.bytes ≡ flush.bytes
@@ -68,7 +68,7 @@ pub record IsFlushing (parts : Parts) (flush : PendingFlush) : Type 0 where
 pub record CanBegin (parts : Parts) : Type 0 where
   pub pages : (page : ℕ) → is_resident parts page ≡ true → page < length parts.store.pages
   pub size : (page : ℕ) → length (page_below parts page) ≡ PAGE_BYTES
-  pub clean : (page : ℕ) (slot : Slot) → cached parts page ≡ Some slot → slot.dirty ≡ false
+  pub clean : (page : ℕ) (slot : CacheSlot) → cached parts page ≡ Some slot → slot.dirty ≡ false
       → slot.bytes ≡ stored_bytes parts.store page
   pub idle : parts.store.pending ≡ None
   pub empty : parts.window.posts ≡ []
@@ -79,7 +79,7 @@ pub record CanBegin (parts : Parts) : Type 0 where
 pub record IsDeviceSound (parts : Parts) : Type 0 where
   pub pages : (page : ℕ) → is_resident parts page ≡ true → page < length parts.store.pages
   pub size : (page : ℕ) → length (page_below parts page) ≡ PAGE_BYTES
-  pub clean : (page : ℕ) (slot : Slot) → cached parts page ≡ Some slot → slot.dirty ≡ false
+  pub clean : (page : ℕ) (slot : CacheSlot) → cached parts page ≡ Some slot → slot.dirty ≡ false
       → slot.bytes ≡ stored_bytes parts.store page
   pub flushing : (flush : PendingFlush) → parts.store.pending ≡ Some flush → IsFlushing parts flush
   pub posts : All IsPost parts.window.posts

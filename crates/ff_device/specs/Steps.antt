@@ -4,7 +4,7 @@ use Rattle.std.specs.Option.{is_some}
 use Rattle.ff_base.specs.declared.numbers.PageNo.{PageNo}
 use Rattle.ff_cache.specs.Cache.{is_full_set, values_of, way_at}
 use Rattle.ff_cache.specs.Slots.{holds}
-use Rattle.ff_cache.specs.declared.slot.Slot.{Slot}
+use Rattle.ff_cache.specs.declared.slot.CacheSlot.{CacheSlot}
 use Rattle.ff_lines.specs.Posts.{waits_in}
 use Rattle.ff_lines.specs.declared.post.Post.{Post}
 use Rattle.ff_device.specs.Chosen.{chosen}
@@ -17,7 +17,7 @@ page_waits posts None = false
 page_waits posts (Some page) = waits_in posts page.0
 
 -- the slot may give way: it isn't pinned, and no post to its page waits
-abbrev pub may_go : List Post → Slot → Bool
+abbrev pub may_go : List Post → CacheSlot → Bool
 may_go posts slot = not slot.pinned && not (page_waits posts slot.page)
 
 -- a way of the page's set may give way
@@ -29,12 +29,12 @@ abbrev pub chosen_way : Parts → ℕ → Option ℕ
 chosen_way parts page = chosen (may_go_at parts page) (values_of parts.cache page)
 
 -- the slot's page is the one whose flush is to be sealed
-abbrev pub is_flushed : Option PendingFlush → Slot → Bool
+abbrev pub is_flushed : Option PendingFlush → CacheSlot → Bool
 is_flushed None slot = false
 is_flushed (Some flush) slot = holds slot flush.page
 
 -- the slot is clean, or will be when the flush is sealed
-abbrev pub soon_clean : Option PendingFlush → Slot → Bool
+abbrev pub soon_clean : Option PendingFlush → CacheSlot → Bool
 soon_clean pending slot = not slot.dirty || (is_flushed pending slot && not slot.touched)
 
 -- the steps of a flush that begins: those of the collector, the program and the seal. While another flush is to be
@@ -43,7 +43,7 @@ abbrev pub flush_steps : StoreState → ℕ
 flush_steps store = (if is_some store.pending then store.most_left else store.left) + 2
 
 -- the steps before a page can be fetched in the place of a slot
-abbrev pub steps_of_slot : StoreState → Slot → ℕ
+abbrev pub steps_of_slot : StoreState → CacheSlot → ℕ
 steps_of_slot store slot = if soon_clean store.pending slot then 0 else flush_steps store
 
 -- the steps before the page can be fetched in the place of the way that gives way; where none may, the window is drained

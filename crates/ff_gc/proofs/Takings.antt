@@ -3,11 +3,11 @@ use Rattle.std.proofs.Common.{◌≡◌, ◌+◌, ap, refl, arith}
 use Rattle.std.specs.Prelude.{Result}
 use Rattle.ff_flash.specs.Injected.{stop_of}
 use Rattle.ff_flash.specs.declared.flash.FlashStop.{FlashStop}
-use Rattle.ff_gc.specs.Counts.{begun, total_of}
+use Rattle.ff_gc.specs.FlashCounts.{begun, total_of}
 use Rattle.ff_gc.specs.Steps.{Begins, Commits, IsStep, IsStepAt, ProgramsNext, ReadsNext, Takes, empty, full, idle, made, mapped, none, programs, reads, rested}
 use Rattle.ff_gc.specs.World.{World}
 use Rattle.ff_gc.specs.declared.collector.GcStep.{GcStep}
-use Rattle.ff_gc.specs.declared.counts.Counts.{Counts}
+use Rattle.ff_gc.specs.declared.counts.FlashCounts.{FlashCounts}
 use Rattle.ff_gc.specs.declared.counts.OperationKind.{OperationKind}
 use Rattle.ff_gc.specs.declared.counts.OperationKind.TheVariants.{Erase, Program, Read, Seal}
 use Rattle.ff_gc.specs.declared.phase.Job.{Job}
@@ -16,7 +16,7 @@ use Rattle.ff_gc.specs.declared.phase.Phase.{Phase}
 use Rattle.ff_gc.specs.declared.phase.Phase.TheVariants.{Idle, Programming, Reading, Sealing, Commit, Erasing, Aborting}
 
 -- one operation is counted
-pub total_begun : (kind : OperationKind) (counts : Counts) → total_of (begun kind counts) ≡ total_of counts + 1
+pub total_begun : (kind : OperationKind) (counts : FlashCounts) → total_of (begun kind counts) ≡ total_of counts + 1
 total_begun Read counts = omega arith
 total_begun Program counts = omega arith
 total_begun Seal counts = omega arith

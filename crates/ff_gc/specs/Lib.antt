@@ -1,7 +1,7 @@
 pub mod Cells
 pub mod Collector
 pub mod CollectorFields
-pub mod Counts
+pub mod FlashCounts
 pub mod Left
 pub mod Originals
 pub mod Running

@@ -13,7 +13,7 @@ use Rattle.ff_space.specs.Choices.{IsAllMapped, IsLeast, IsVictimBlock}
 use Rattle.ff_space.specs.declared.block.BlockState.TheVariants.{Erased as ErasedBlock}
 use Rattle.ff_map.specs.PageMap.{IsSwitched}
 use Rattle.ff_gc.specs.Collector.{CollectorView}
-use Rattle.ff_gc.specs.Counts.{begun}
+use Rattle.ff_gc.specs.FlashCounts.{begun}
 use Rattle.ff_gc.specs.Originals.{IsAfter, IsAllSeen, IsNextOriginal, move_to, past, spare_in}
 use Rattle.ff_gc.specs.World.{World}
 use Rattle.ff_gc.specs.declared.collector.GcStep.{GcStep}

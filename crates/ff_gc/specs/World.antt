@@ -10,7 +10,7 @@ use Rattle.ff_map.specs.declared.places.Mapping.{Mapping}
 use Rattle.ff_gc.specs.Cells.{IsSafe}
 use Rattle.ff_gc.specs.Collector.{CollectorView}
 use Rattle.ff_gc.specs.Running.{IsLive}
-use Rattle.ff_gc.specs.declared.counts.Counts.{Counts}
+use Rattle.ff_gc.specs.declared.counts.FlashCounts.{FlashCounts}
 
 -- a collector, its flash, block table and page map, and the counts of the operations
 pub record World : Type 0 where
@@ -18,9 +18,9 @@ pub record World : Type 0 where
   pub flash : FlashState
   pub table : BlockTableView
   pub places : PageMapView
-  pub counts : Counts
+  pub counts : FlashCounts
 
-abbrev pub world_of : CollectorView → FlashState → BlockTableView → PageMapView → Counts → World
+abbrev pub world_of : CollectorView → FlashState → BlockTableView → PageMapView → FlashCounts → World
 world_of gc flash table places counts =
     record { gc = gc; flash = flash; table = table; places = places; counts = counts }
 

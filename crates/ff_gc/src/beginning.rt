@@ -5,14 +5,14 @@ ghost use Rattle.ff_space.specs.BlockTable.{IsInState};
 ghost use Rattle.ff_space.specs.Choices.{IsLeast, IsVictimBlock};
 ghost use Rattle.ff_space.specs.declared.block.BlockState.TheVariants.{Erased};
 ghost use Rattle.ff_flash.specs.FlashState.{HasOperationsLeft};
-ghost use Rattle.ff_gc.specs.Counts.{total_of};
+ghost use Rattle.ff_gc.specs.FlashCounts.{total_of};
 ghost use Rattle.ff_gc.specs.Running.{HasBlock};
 ghost use Rattle.ff_gc.specs.Steps.{Begins};
 ghost use Rattle.ff_gc.specs.declared.phase.Phase.TheVariants.{Idle};
 ghost use Rattle.ff_gc.specs.World.{IsCollectorReady, world_of};
 
 use crate::collector::{Collector, GcStep};
-use crate::counts::Counts;
+use crate::counts::FlashCounts;
 use crate::phase::{Job, Phase};
 use ff_base::Block;
 use ff_flash::{Flash, FlashStop};
@@ -26,7 +26,7 @@ impl Collector {
         flash: &mut F,
         space: &mut BlockTable,
         map: &mut PageMap,
-        counts: &mut Counts,
+        counts: &mut FlashCounts,
     ) -> Result<GcStep, FlashStop>
         requires ready { IsCollectorReady
             (world_of self.old (F.state flash.old) space.old map.old counts.old) }
@@ -47,7 +47,7 @@ impl Collector {
         flash: &mut F,
         space: &mut BlockTable,
         map: &mut PageMap,
-        counts: &mut Counts,
+        counts: &mut FlashCounts,
         victim: Block,
     ) -> Result<GcStep, FlashStop>
         requires ready { IsCollectorReady

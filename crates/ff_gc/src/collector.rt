@@ -4,11 +4,11 @@ ghost use Rattle.ff_base.specs.Count.{HasCountLeft};
 ghost use Rattle.ff_flash.specs.declared.flash.FlashStop.TheVariants.{Off};
 ghost use Rattle.ff_flash.specs.FlashState.{HasOperationsLeft};
 ghost use Rattle.ff_gc.specs.Collector.{is_busy, mounted_phase, new_collector};
-ghost use Rattle.ff_gc.specs.Counts.{total_of};
+ghost use Rattle.ff_gc.specs.FlashCounts.{total_of};
 ghost use Rattle.ff_gc.specs.Steps.{IsStep};
 ghost use Rattle.ff_gc.specs.World.{IsCollectorReady, Keeps, world_of};
 
-use crate::counts::Counts;
+use crate::counts::FlashCounts;
 use crate::phase::Phase;
 use ff_base::{Block, Geometry, NoMemory, PageBuf};
 use ff_flash::{Flash, FlashStop};
@@ -93,7 +93,7 @@ impl Collector {
         flash: &mut F,
         space: &mut BlockTable,
         map: &mut PageMap,
-        counts: &mut Counts,
+        counts: &mut FlashCounts,
     ) -> Result<GcStep, FlashStop>
         requires ready { (F.state flash.old).on ≡ true
             → IsCollectorReady
@@ -122,7 +122,7 @@ impl Collector {
         flash: &mut F,
         space: &mut BlockTable,
         map: &mut PageMap,
-        counts: &mut Counts,
+        counts: &mut FlashCounts,
     ) -> Result<GcStep, FlashStop>
         requires ready { IsCollectorReady
             (world_of self.old (F.state flash.old) space.old map.old counts.old) }

@@ -5,13 +5,13 @@ ghost use Rattle.ff_flash.specs.Cells.{IsClosed, IsSealed, cell_at, erased};
 ghost use Rattle.ff_space.specs.Blocks.{CanAdvance};
 ghost use Rattle.ff_space.specs.BlockTable.{IsInRange, block_at};
 ghost use Rattle.ff_flash.specs.FlashState.{HasOperationsLeft};
-ghost use Rattle.ff_gc.specs.Counts.{total_of};
+ghost use Rattle.ff_gc.specs.FlashCounts.{total_of};
 ghost use Rattle.ff_gc.specs.Steps.{ProgramsCopy, ProgramsNext, ReadsNext, ReadsPage, SealsCopy, next_place};
 ghost use Rattle.ff_gc.specs.declared.phase.Phase.TheVariants.{Programming, Reading};
 ghost use Rattle.ff_gc.specs.World.{IsCollectorReady, world_of};
 
 use crate::collector::{Collector, GcStep};
-use crate::counts::{Counts, OperationKind};
+use crate::counts::{FlashCounts, OperationKind};
 use crate::originals::{next_original, phase_after};
 use crate::phase::{Job, Original, Phase};
 use ff_base::Ppn;
@@ -26,7 +26,7 @@ impl Collector {
         flash: &mut F,
         space: &mut BlockTable,
         map: &mut PageMap,
-        counts: &mut Counts,
+        counts: &mut FlashCounts,
         job: Job,
     ) -> Result<GcStep, FlashStop>
         requires ready { IsCollectorReady
@@ -49,7 +49,7 @@ impl Collector {
         flash: &mut F,
         space: &BlockTable,
         map: &PageMap,
-        counts: &mut Counts,
+        counts: &mut FlashCounts,
         job: Job,
         original: Original,
     ) -> Result<GcStep, FlashStop>
@@ -79,7 +79,7 @@ impl Collector {
         flash: &mut F,
         space: &mut BlockTable,
         map: &PageMap,
-        counts: &mut Counts,
+        counts: &mut FlashCounts,
         job: Job,
         original: Original,
     ) -> Result<GcStep, FlashStop>
@@ -108,7 +108,7 @@ impl Collector {
         flash: &mut F,
         space: &mut BlockTable,
         map: &PageMap,
-        counts: &mut Counts,
+        counts: &mut FlashCounts,
         job: Job,
         original: Original,
         at: Ppn,
@@ -146,7 +146,7 @@ impl Collector {
         flash: &mut F,
         space: &BlockTable,
         map: &PageMap,
-        counts: &mut Counts,
+        counts: &mut FlashCounts,
         job: Job,
         original: Original,
         at: Ppn,

@@ -1,7 +1,7 @@
-// Counts of flash operations by kind.
+// FlashCounts of flash operations by kind.
 ghost use Rattle.std.specs.Prelude.{◌≡◌};
 ghost use Rattle.ff_base.specs.Count.{HasCountLeft};
-ghost use Rattle.ff_gc.specs.Counts.{begun, no_counts, total_of};
+ghost use Rattle.ff_gc.specs.FlashCounts.{begun, no_counts, total_of};
 
 /// A kind of flash operation that a store makes.
 #[derive(Clone, Copy, Debug, PartialEq, Eq)]
@@ -14,18 +14,18 @@ pub enum OperationKind {
 
 /// How many operations of each kind were begun, also those that failed or were cut.
 #[derive(Clone, Copy, Debug, PartialEq, Eq)]
-pub struct Counts {
+pub struct FlashCounts {
     pub reads: u64,
     pub programs: u64,
     pub seals: u64,
     pub erases: u64,
 }
 
-impl Counts {
-    pub fn new() -> Counts
+impl FlashCounts {
+    pub fn new() -> FlashCounts
         ensures { result ≡ no_counts }
     {
-        Counts {
+        FlashCounts {
             reads: 0,
             programs: 0,
             seals: 0,
@@ -33,7 +33,7 @@ impl Counts {
         }
     }
 
-    /// Counts one more.
+    /// FlashCounts one more.
     pub fn begin(&mut self, kind: OperationKind)
         requires { HasCountLeft (total_of self.old) }
         ensures { self.new ≡ begun kind self.old }

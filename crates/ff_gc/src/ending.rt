@@ -5,12 +5,12 @@ ghost use Rattle.ff_space.specs.BlockTable.{CanEnd, IsInState};
 ghost use Rattle.ff_space.specs.declared.block.BlockState.TheVariants.{Waiting};
 ghost use Rattle.ff_map.specs.PageMap.{CanSwitch};
 ghost use Rattle.ff_flash.specs.FlashState.{HasOperationsLeft};
-ghost use Rattle.ff_gc.specs.Counts.{total_of};
+ghost use Rattle.ff_gc.specs.FlashCounts.{total_of};
 ghost use Rattle.ff_gc.specs.Steps.{Commits, ErasesBlock};
 ghost use Rattle.ff_gc.specs.World.{world_of};
 
 use crate::collector::{Collector, GcStep};
-use crate::counts::{Counts, OperationKind};
+use crate::counts::{FlashCounts, OperationKind};
 use crate::phase::{Job, Phase};
 use ff_base::Block;
 use ff_flash::{Flash, FlashStop};
@@ -24,7 +24,7 @@ impl Collector {
         flash: &F,
         space: &mut BlockTable,
         map: &mut PageMap,
-        counts: &Counts,
+        counts: &FlashCounts,
         job: Job,
     ) -> Result<GcStep, FlashStop>
         requires moves { CanSwitch map.old self.old.moves }
@@ -48,7 +48,7 @@ impl Collector {
         flash: &mut F,
         space: &mut BlockTable,
         map: &PageMap,
-        counts: &mut Counts,
+        counts: &mut FlashCounts,
         block: Block,
         ends: GcStep,
     ) -> Result<GcStep, FlashStop>

@@ -11,7 +11,7 @@ mod originals;
 mod phase;
 
 pub use collector::{Collector, GcStep};
-pub use counts::{Counts, OperationKind};
+pub use counts::{FlashCounts, OperationKind};
 pub use phase::{Job, Original, Phase};
 
 #[cfg(test)]

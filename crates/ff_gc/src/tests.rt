@@ -5,7 +5,7 @@ use std::test::Fail;
 
 #[test]
 fn each_kind_is_counted_by_itself(rt: HostRuntime) {
-    let mut counts = Counts::new();
+    let mut counts = FlashCounts::new();
     counts.begin(OperationKind::Read);
     counts.begin(OperationKind::Program);
     counts.begin(OperationKind::Program);

@@ -7,7 +7,7 @@ use Rattle.ff_base.specs.declared.numbers.PageNo.{PageNo}
 use Rattle.ff_cache.specs.Cache.{CacheView}
 use Rattle.ff_cache.specs.Nv.{IsFromNv, NvView, NvWay, slots_of, way_of, ways_of}
 use Rattle.ff_cache.specs.Slots.{held}
-use Rattle.ff_cache.specs.declared.slot.Slot.{Slot}
+use Rattle.ff_cache.specs.declared.slot.CacheSlot.{CacheSlot}
 use Rattle.ff_flash.specs.Cells.{Cell}
 use Rattle.ff_flash.specs.FlashState.{FlashState}
 use Rattle.ff_lines.proofs.PageCounts.{count_below-part}
@@ -25,7 +25,7 @@ ways_of_slots (way ∷ later) = ap (λ (rest : List NvWay). way ∷ rest) (ways_
 
 -- the battery would keep of the cache what it was made of
 pub same_ways : (sets ways : ℕ) (kept : List NvWay) (cache : CacheView) → IsFromNv sets ways kept cache → ways_of cache.slots ≡ kept
-same_ways sets ways kept cache from = ap (λ (slots : List Slot). ways_of slots) from.slots ∙ ways_of_slots kept
+same_ways sets ways kept cache from = ap (λ (slots : List CacheSlot). ways_of slots) from.slots ∙ ways_of_slots kept
 
 pub same_content : (g : Geometry) (nv : NvView) (cache : CacheView) → IsFromNv g.sets g.ways nv.slots cache
     → nv_of cache nv.marks ≡ nv
@@ -42,14 +42,14 @@ pub record IsStoreOn (g : Geometry) (flash : FlashState) (s : PageStoreView) : T
   pub per_block : s.world.gc.per_block ≡ g.per_block
   pub page_count : length s.world.places.pages ≡ g.pages
 
-way_in : (g : Geometry) (nv : NvView) (cache : CacheView) (page : ℕ) (found : Option Slot) → IsFromNv g.sets g.ways nv.slots cache
+way_in : (g : Geometry) (nv : NvView) (cache : CacheView) (page : ℕ) (found : Option CacheSlot) → IsFromNv g.sets g.ways nv.slots cache
     → held cache.slots page ≡ found → way_of_page nv.slots page ≡ option_map way_of found
 way_in g nv cache page found from is =
     ap (λ (ways : List NvWay). way_of_page ways page) (sym (same_ways g.sets g.ways nv.slots cache from))
     ∙ way_of_slot cache.slots page
-    ∙ ap (λ (o : Option Slot). option_map way_of o) is
+    ∙ ap (λ (o : Option CacheSlot). option_map way_of o) is
 
-dirty_same : (found : Option Slot) → is_dirty_way (option_map way_of found) ≡ is_dirty_slot found
+dirty_same : (found : Option CacheSlot) → is_dirty_way (option_map way_of found) ≡ is_dirty_slot found
 dirty_same None = refl
 dirty_same (Some slot) = refl
 

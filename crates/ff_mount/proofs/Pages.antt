@@ -5,7 +5,7 @@ use Rattle.ff_base.specs.declared.numbers.PageNo.{PageNo}
 use Rattle.ff_cache.specs.Cache.{CacheView, IsSlotOf}
 use Rattle.ff_cache.specs.Nv.{NvWay, way_of, ways_of}
 use Rattle.ff_cache.specs.Slots.{cache_slot_at, held, holds}
-use Rattle.ff_cache.specs.declared.slot.Slot.{Slot}
+use Rattle.ff_cache.specs.declared.slot.CacheSlot.{CacheSlot}
 use Rattle.ff_model.specs.Image.{Content}
 use Rattle.ff_mount.specs.Filled.{stored_page, stored_reads, with_found}
 use Rattle.ff_mount.specs.Held.{best_of, image_page, is_dirty_way, is_read, page_reads, way_bytes, way_of_page}
@@ -16,20 +16,20 @@ use Rattle.ff_store.specs.Pages.{is_mapped}
 use Rattle.ff_store.specs.declared.pending.Pending.{Pending}
 use Rattle.std.proofs.lemmas.Option.{none-some}
 
-chosen : (first : Bool) (slot : Slot) (rest : Option Slot) (ways : Option NvWay) → ways ≡ option_map way_of rest
+chosen : (first : Bool) (slot : CacheSlot) (rest : Option CacheSlot) (ways : Option NvWay) → ways ≡ option_map way_of rest
     → cond first (Some (way_of slot)) ways ≡ option_map way_of (cond first (Some slot) rest)
 chosen true slot rest ways same = refl
 chosen false slot rest ways same = same
 
 -- the way of a page is that of its slot
-pub way_of_slot : (slots : List Slot) (page : ℕ) → way_of_page (ways_of slots) page ≡ option_map way_of (held slots page)
+pub way_of_slot : (slots : List CacheSlot) (page : ℕ) → way_of_page (ways_of slots) page ≡ option_map way_of (held slots page)
 way_of_slot [] page = refl
 way_of_slot (slot ∷ later) page =
     chosen (holds slot page) slot (held later page) (way_of_page (ways_of later) page) (way_of_slot later page)
 
-way_found : (slots : List Slot) (page : ℕ) (found : Option Slot) → held slots page ≡ found
+way_found : (slots : List CacheSlot) (page : ℕ) (found : Option CacheSlot) → held slots page ≡ found
     → way_of_page (ways_of slots) page ≡ option_map way_of found
-way_found slots page found is = way_of_slot slots page ∙ ap (λ (s : Option Slot). option_map way_of s) is
+way_found slots page found is = way_of_slot slots page ∙ ap (λ (s : Option CacheSlot). option_map way_of s) is
 
 -- what an image has of a cached page
 pub image_cached : (s : PageStoreView) (cache : CacheView) (page : PageNo) (slot : ℕ) → IsStoreSound s → s.waits ≡ None
@@ -39,7 +39,7 @@ pub image_cached : (s : PageStoreView) (cache : CacheView) (page : PageNo) (slot
     then Some (cache_slot_at cache.slots slot).bytes else None)
 image_cached s cache page slot sound none is =
     let cells = s.world.flash.cells in
-    let found : Slot = cache_slot_at cache.slots slot in
+    let found : CacheSlot = cache_slot_at cache.slots slot in
     let way = way_found cache.slots page.0 (Some found) is.held in
     let mapped = best_mapped s page sound.always none in
     ap (λ (w : Option NvWay).

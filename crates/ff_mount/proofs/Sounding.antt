@@ -10,7 +10,7 @@ use Rattle.ff_base.specs.declared.numbers.PageNo.{PageNo}
 use Rattle.ff_cache.specs.Cache.{CacheView, IsCacheSound}
 use Rattle.ff_cache.specs.Nv.{NvView, NvWay, slot_of, slots_of, way_of, ways_of}
 use Rattle.ff_cache.specs.Slots.{ArePlaced, cache_slot_at, empty_slot, held}
-use Rattle.ff_cache.specs.declared.slot.Slot.{Slot}
+use Rattle.ff_cache.specs.declared.slot.CacheSlot.{CacheSlot}
 use Rattle.ff_flash.specs.Cells.{Cell}
 use Rattle.ff_flash.specs.FlashState.{FlashState}
 use Rattle.ff_gc.specs.Cells.{AreSealed, HasCovered}
@@ -36,16 +36,16 @@ not_waiting : (g : Geometry) (s : PageStoreView) (cache : CacheView) (page : Pag
 not_waiting g s cache page over clean p waits same =
     let dirty = over.waiting p waits in
     let is : held cache.slots page.0 ≡ Some dirty.slot = ap (λ (q : PageNo). held cache.slots q.0) (sym same) ∙ dirty.is in
-    let both : false ≡ true = sym clean ∙ ap (λ (o : Option Slot). is_dirty_slot o) is ∙ dirty.dirty in
+    let both : false ≡ true = sym clean ∙ ap (λ (o : Option CacheSlot). is_dirty_slot o) is ∙ dirty.dirty in
     absurd (cc)
 
 -- what a page reads after a power loss, by the cache and the store
-reads_by : (g : Geometry) (s : PageStoreView) (cache : CacheView) (page : PageNo) (found : Option Slot) → IsStoreSound s
+reads_by : (g : Geometry) (s : PageStoreView) (cache : CacheView) (page : PageNo) (found : Option CacheSlot) → IsStoreSound s
     → IsCacheOver g s cache → held cache.slots page.0 ≡ found
     → way_bytes (option_map way_of found) (bytes_or_zeros (best s.world.flash.cells page)) ≡ slot_bytes found (page_bytes s.world page)
 reads_by g s cache page None sound over is =
     best_bytes s page sound.always
-    (not_waiting g s cache page over (ap (λ (o : Option Slot). is_dirty_slot o) is))
+    (not_waiting g s cache page over (ap (λ (o : Option CacheSlot). is_dirty_slot o) is))
 reads_by g s cache page (Some slot) sound over is = refl
 
 pub held_over : (g : Geometry) (s : PageStoreView) (cache : CacheView) (page : PageNo) → IsStoreSound s
@@ -56,26 +56,26 @@ held_over g s cache page sound over =
     ∙ reads_by g s cache page (held cache.slots page.0) sound over refl
 
 -- the slot of a way
-record IsSlotOfWay (found : Option Slot) (way : NvWay) : Type 0 where
-  slot : Slot
+record IsSlotOfWay (found : Option CacheSlot) (way : NvWay) : Type 0 where
+  slot : CacheSlot
   is : found ≡ Some slot
   same : way_of slot ≡ way
 
-slot_of_way : (found : Option Slot) (way : NvWay) → option_map way_of found ≡ Some way → IsSlotOfWay found way
+slot_of_way : (found : Option CacheSlot) (way : NvWay) → option_map way_of found ≡ Some way → IsSlotOfWay found way
 slot_of_way None way is = absurd (none-some way is)
 slot_of_way (Some slot) way is = record { slot = slot; is = refl; same = same_Some (way_of slot) way is }
 
-way_slot : (slots : List Slot) (page : ℕ) (way : NvWay) → way_of_page (ways_of slots) page ≡ Some way
+way_slot : (slots : List CacheSlot) (page : ℕ) (way : NvWay) → way_of_page (ways_of slots) page ≡ Some way
     → IsSlotOfWay (held slots page) way
 way_slot slots page way is = slot_of_way (held slots page) way (sym (way_of_slot slots page) ∙ is)
 
 -- the slots of the ways of slots are at the same positions
-kept_slot : (slots : List Slot) (k : ℕ) → cache_slot_at (slots_of (ways_of slots)) k ≡ slot_of (way_of (cache_slot_at slots k))
+kept_slot : (slots : List CacheSlot) (k : ℕ) → cache_slot_at (slots_of (ways_of slots)) k ≡ slot_of (way_of (cache_slot_at slots k))
 kept_slot slots k =
     get_or-map_all slot_of (ways_of slots) k (way_of empty_slot)
     ∙ ap slot_of (get_or-map_all way_of slots k empty_slot)
 
-pub kept_placed : (sets ways : ℕ) (slots : List Slot) → ArePlaced sets ways slots → ArePlaced sets ways (slots_of (ways_of slots))
+pub kept_placed : (sets ways : ℕ) (slots : List CacheSlot) → ArePlaced sets ways slots → ArePlaced sets ways (slots_of (ways_of slots))
 kept_placed sets ways slots placed =
     let size : length (slots_of (ways_of slots)) ≡ length slots = length-map (ways_of slots) slot_of ∙ length-map slots way_of in
     record {
@@ -99,7 +99,7 @@ sealed_mapped g s cache page recoverable over clean =
     (recoverable.mapped page (λ p waits same. not_waiting g s cache page over clean p waits same))
     ∙ version_some s.world.flash.cells (mapping_of s.world.places page)
 
-dirty_same : (found : Option Slot) → is_dirty_way (option_map way_of found) ≡ is_dirty_slot found
+dirty_same : (found : Option CacheSlot) → is_dirty_way (option_map way_of found) ≡ is_dirty_slot found
 dirty_same None = refl
 dirty_same (Some slot) = refl
 
@@ -116,19 +116,19 @@ held_written g s cache page recoverable over holds =
     written_by (is_dirty_slot (held cache.slots page)) (is_some (best_of s.world.flash.cells page))
     (is_mapped s.world.places (record { 0 = page })) (sealed_mapped g s cache (record { 0 = page }) recoverable over) by_slot
 
-clean_way : (g : Geometry) (s : PageStoreView) (cache : CacheView) (page : ℕ) (slot : Slot) → IsStoreSound s → IsCacheOver g s cache
+clean_way : (g : Geometry) (s : PageStoreView) (cache : CacheView) (page : ℕ) (slot : CacheSlot) → IsStoreSound s → IsCacheOver g s cache
     → held cache.slots page ≡ Some slot → slot.dirty ≡ false → slot.bytes ≡ bytes_or_zeros (best_of s.world.flash.cells page)
 clean_way g s cache page slot sound over is clean =
     let number : PageNo = record { 0 = page } in
     over.clean number slot is clean
     ∙ sym (best_bytes s number sound.always
-    (not_waiting g s cache number over (ap (λ (o : Option Slot). is_dirty_slot o) is ∙ clean)))
+    (not_waiting g s cache number over (ap (λ (o : Option CacheSlot). is_dirty_slot o) is ∙ clean)))
 
 -- the content and the flash are sound, at every event and after every cut
 pub sound_over : (g : Geometry) (s : PageStoreView) (cache : CacheView) (marks : List ℕ) → IsStoreSound s → IsRecoverable s
     → IsCacheSound cache → IsCacheOver g s cache → length marks ≡ g.pages → AreSound g (nv_of cache marks) s.world.flash
 sound_over g s cache marks sound recoverable cache_sound over marked =
-    let slots : List Slot = cache.slots in
+    let slots : List CacheSlot = cache.slots in
     record {
       blocks = sound.fits.blocks ∙ over.blocks;
       per_block = sound.fits.per_block ∙ over.per_block;

@@ -5,7 +5,7 @@ ghost use Rattle.ff_flash.specs.SimFlash.{IsSimFlashSound};
 ghost use Rattle.ff_mount.specs.Sound.{AreSound};
 ghost use Rattle.ff_sessions.specs.Closing.{IsClosedSession};
 
-use crate::remounts::{Remounted, remount};
+use crate::remounts::{MountedImage, remount};
 use crate::session::Session;
 use ff_base::{Geometry, NoMemory};
 use ff_core::Lost;
@@ -41,7 +41,7 @@ pub fn close<T: Tune + Drop, E: Pick + Drop>(
     let flash = lost.flash.copy(alloc)?;
     flash_known(&flash);
     match remount(alloc, nv, flash, geometry) {
-        Ok(Remounted { mounted, image }) => Ok(kept(lost, Some(mounted), Some(image), None)),
+        Ok(MountedImage { mounted, image }) => Ok(kept(lost, Some(mounted), Some(image), None)),
         Err(MountStop::NoMemory) => Err(NoMemory),
         Err(stop) => Ok(kept(lost, None, None, Some(stop))),
     }

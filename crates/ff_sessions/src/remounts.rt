@@ -13,7 +13,7 @@ use std::alloc::Global;
 
 /// Mounted parts, and the image of them.
 #[derive(Drop)]
-pub struct Remounted<F: Flash> {
+pub struct MountedImage<F: Flash> {
     pub mounted: Mounted<F>,
     pub image: Image,
 }
@@ -24,7 +24,7 @@ pub fn remount<F: Flash + Drop>(
     nv: Nv,
     flash: F,
     geometry: &Geometry,
-) -> Result<Remounted<F>, MountStop>
+) -> Result<MountedImage<F>, MountStop>
     requires geometry { IsWithinLimits geometry.now }
     requires sound { AreSound geometry.now nv (F.state flash) }
     requires life { (F.state flash).operations ≤ 2 ^ 61 }
@@ -34,7 +34,7 @@ pub fn remount<F: Flash + Drop>(
 {
     match mount(alloc, nv, flash, geometry) {
         Ok(mut mounted) => match image_of(alloc, &mut mounted, geometry) {
-            Ok(image) => Ok(Remounted { mounted, image }),
+            Ok(image) => Ok(MountedImage { mounted, image }),
             Err(stop) => Err(stop),
         },
         Err(back) => Err(stop_of(back)),

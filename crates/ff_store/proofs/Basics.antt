@@ -15,11 +15,11 @@ use Rattle.ff_gc.proofs.Stepping.{steps_kept}
 use Rattle.ff_gc.proofs.Takings.{takes_of, total_begun}
 use Rattle.ff_gc.specs.Cells.{AreSealed, IsSafe}
 use Rattle.ff_gc.specs.Collector.{is_busy}
-use Rattle.ff_gc.specs.Counts.{total_of}
+use Rattle.ff_gc.specs.FlashCounts.{total_of}
 use Rattle.ff_gc.specs.Steps.{IsStep, Makes, Takes, made, rested}
 use Rattle.ff_gc.specs.World.{Fits, IsCollectorReady, Keeps, World}
 use Rattle.ff_gc.specs.declared.collector.GcStep.{GcStep}
-use Rattle.ff_gc.specs.declared.counts.Counts.{Counts}
+use Rattle.ff_gc.specs.declared.counts.FlashCounts.{FlashCounts}
 use Rattle.ff_gc.specs.declared.counts.OperationKind.{OperationKind}
 use Rattle.ff_store.specs.Calls.{Collects, IsCall, SameBytes}
 use Rattle.ff_store.specs.PageStore.{IsElsewhere, IsPending, IsRunning, IsStoreSound, IsWaiting, PageStoreView}
@@ -63,7 +63,7 @@ pub waiting_some : (s : PageStoreView) (waits : Option Pending) (p : Pending) �
 waiting_some s waits p is waiting = subst (λ w. IsWaiting s w) is waiting
 
 -- operations are counted
-counted_more : (s : PageStoreView) (flash : FlashState) (counts : Counts) (stop : Option FlashStop) → IsStoreSound s
+counted_more : (s : PageStoreView) (flash : FlashState) (counts : FlashCounts) (stop : Option FlashStop) → IsStoreSound s
     → s.world.flash.on ≡ true → Operates s.world.flash stop flash → total_of counts ≡ total_of s.world.counts + 1
     → s.opened + total_of counts ≡ flash.operations
 counted_more s flash counts stop sound on operates more =
@@ -74,13 +74,13 @@ pub counted_after : (s : PageStoreView) (new : World) (kind : OperationKind) (st
     → s.opened + total_of new.counts ≡ new.flash.operations
 counted_after s new kind stop sound on m =
     counted_more s new.flash new.counts stop sound on m.flash
-    (ap (λ (c : Counts). total_of c) m.counts ∙ total_begun kind s.world.counts)
+    (ap (λ (c : FlashCounts). total_of c) m.counts ∙ total_begun kind s.world.counts)
 
 counted_takes : (s : PageStoreView) (new : World) (stop : Option FlashStop) → IsStoreSound s
     → s.world.flash.on ≡ true → Takes s.world stop new → s.opened + total_of new.counts ≡ new.flash.operations
 counted_takes s new stop sound on (made kind m) = counted_after s new kind stop sound on m
 counted_takes s new stop sound on (rested flash counts none) =
-    let same = ap (λ (c : Counts). total_of c) counts in
+    let same = ap (λ (c : FlashCounts). total_of c) counts in
     let operations = ap (λ (f : FlashState). f.operations) flash in
     let counted = sound.counted in
     omega arith
@@ -172,10 +172,10 @@ sealed_later pages ops later cells more s = record {
 }
 
 -- a flash operation that changes no cell, as the fields of a world
-abbrev pub with_flash : PageStoreView → FlashState → Counts → PageStoreView
+abbrev pub with_flash : PageStoreView → FlashState → FlashCounts → PageStoreView
 with_flash s flash counts = record s { world = record s.world { flash = flash; counts = counts } }
 
-pub fits_operated : (w : World) (flash : FlashState) (counts : Counts) (stop : Option FlashStop) → Fits w
+pub fits_operated : (w : World) (flash : FlashState) (counts : FlashCounts) (stop : Option FlashStop) → Fits w
     → Operates w.flash stop flash → length flash.cells ≡ length w.flash.cells
     → Fits (record w { flash = flash; counts = counts })
 fits_operated w flash counts stop fits operates size = record {
@@ -188,7 +188,7 @@ fits_operated w flash counts stop fits operates size = record {
   small = fits.small;
 }
 
-pending_same : (s : PageStoreView) (flash : FlashState) (counts : Counts) (waits : Option Pending)
+pending_same : (s : PageStoreView) (flash : FlashState) (counts : FlashCounts) (waits : Option Pending)
     → flash.cells ≡ s.world.flash.cells → IsWaiting s waits → IsWaiting (with_flash s flash counts) waits
 pending_same s flash counts None cells waiting = tt
 pending_same s flash counts (Some p) cells waiting = record {
@@ -207,7 +207,7 @@ pending_same s flash counts (Some p) cells waiting = record {
 }
 
 -- a page is read
-pub read_sound : (s : PageStoreView) (flash : FlashState) (counts : Counts) (stop : Option FlashStop)
+pub read_sound : (s : PageStoreView) (flash : FlashState) (counts : FlashCounts) (stop : Option FlashStop)
     → IsStoreSound s → s.world.flash.on ≡ true → flash.cells ≡ s.world.flash.cells
     → Operates s.world.flash stop flash → total_of counts ≡ total_of s.world.counts + 1
     → IsStoreSound (with_flash s flash counts)

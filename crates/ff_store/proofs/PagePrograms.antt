@@ -33,7 +33,7 @@ use Rattle.ff_gc.specs.Cells.{IsSafe}
 use Rattle.ff_gc.specs.Running.{IsLive}
 use Rattle.ff_gc.specs.Steps.{Makes}
 use Rattle.ff_gc.specs.World.{Fits, IsCollectorReady, World}
-use Rattle.ff_gc.specs.declared.counts.Counts.{Counts}
+use Rattle.ff_gc.specs.declared.counts.FlashCounts.{FlashCounts}
 use Rattle.ff_gc.specs.declared.counts.OperationKind.TheVariants.{Program}
 use Rattle.ff_store.proofs.Around.{IsAside, at_aside, not_victim}
 use Rattle.ff_store.proofs.Basics.{counted_after, elsewhere_none, ready_in, waiting_none}
@@ -119,7 +119,7 @@ flushed_live w cells block at bytes spare result ready t programs =
     }
 
 -- what holds always, after a program
-flushed_safe : (w : World) (flash : FlashState) (counts : Counts) (block at : ℕ) (bytes : List ℕ) (spare : Spare)
+flushed_safe : (w : World) (flash : FlashState) (counts : FlashCounts) (block at : ℕ) (bytes : List ℕ) (spare : Spare)
     (result : Result (Unit {0}) FlashStop) (stop : Option FlashStop) → IsCollectorReady w → IsTarget w block at
     → Makes Program w stop (record w { flash = flash; counts = counts })
     → Programs w.flash.cells at bytes spare result flash.cells
@@ -149,7 +149,7 @@ flushed_safe w flash counts block at bytes spare result stop ready t m programs 
       };
     }
 
-flushed_fits : (w : World) (flash : FlashState) (counts : Counts) (table : BlockTableView) (stop : Option FlashStop) → Fits w
+flushed_fits : (w : World) (flash : FlashState) (counts : FlashCounts) (table : BlockTableView) (stop : Option FlashStop) → Fits w
     → Operates w.flash stop flash → length flash.cells ≡ length w.flash.cells
     → length table.blocks ≡ length w.table.blocks → table.per_block ≡ w.table.per_block
     → Fits (record w { flash = flash; counts = counts; table = table; places = drawn_map w.places })
@@ -164,7 +164,7 @@ flushed_fits w flash counts table stop fits operates size blocks per = record {
 }
 
 -- the store after a program that worked
-abbrev pub flushed_store : PageStoreView → FlashState → Counts → ℕ → Option Pending → PageStoreView
+abbrev pub flushed_store : PageStoreView → FlashState → FlashCounts → ℕ → Option Pending → PageStoreView
 flushed_store s flash counts block waits = record s {
   world = record s.world {
     flash = flash;
@@ -175,7 +175,7 @@ flushed_store s flash counts block waits = record s {
   waits = waits;
 }
 
-flushed_pending : (s : PageStoreView) (flash : FlashState) (counts : Counts) (page : PageNo) (bytes : List ℕ) (block : ℕ)
+flushed_pending : (s : PageStoreView) (flash : FlashState) (counts : FlashCounts) (page : PageNo) (bytes : List ℕ) (block : ℕ)
     (at : Ppn) → IsCollectorReady s.world → IsTarget s.world block at.0 → length bytes ≡ PAGE_BYTES
     → Programs s.world.flash.cells at.0 bytes (spare_of (pending_at page at s.world.places)) (Ok tt) flash.cells
     → IsPending (flushed_store s flash counts block (Some (pending_at page at s.world.places))) (pending_at page at s.world.places)
@@ -218,7 +218,7 @@ flushed_pending s flash counts page bytes block at ready t size programs =
       ];
     }
 
-pub flushed_ok : (s : PageStoreView) (flash : FlashState) (counts : Counts) (page : PageNo) (bytes : List ℕ) (block : ℕ)
+pub flushed_ok : (s : PageStoreView) (flash : FlashState) (counts : FlashCounts) (page : PageNo) (bytes : List ℕ) (block : ℕ)
     (at : Ppn) → IsStoreSound s → s.world.flash.on ≡ true → IsBlockTableSound s.world.table
     → page.0 < length s.world.places.pages → mapped_with s.world.places page ≤ page_capacity s.world
     → length bytes ≡ PAGE_BYTES → IsWritePlace s.world.table block at.0
@@ -270,7 +270,7 @@ flushed_ok s flash counts page bytes block at sound on table in_range room size 
 with_count : (places : PageMapView) (page : PageNo) → mapped_count places ≤ mapped_with places page
 with_count places page = omega arith
 
-pub flushed_failed : (s : PageStoreView) (flash : FlashState) (counts : Counts) (page : PageNo) (bytes : List ℕ) (block : ℕ)
+pub flushed_failed : (s : PageStoreView) (flash : FlashState) (counts : FlashCounts) (page : PageNo) (bytes : List ℕ) (block : ℕ)
     (at : Ppn) → IsStoreSound s → s.world.flash.on ≡ true → s.waits ≡ None → IsBlockTableSound s.world.table
     → mapped_with s.world.places page ≤ page_capacity s.world → IsWritePlace s.world.table block at.0
     → Makes Program s.world (Some Failed) (record s.world { flash = flash; counts = counts })
@@ -304,7 +304,7 @@ flushed_failed s flash counts page bytes block at sound on none table room place
       counted = counted_after s (record w { flash = flash; counts = counts }) Program (Some Failed) sound on m;
     }
 
-pub flushed_off : (s : PageStoreView) (flash : FlashState) (counts : Counts) (page : PageNo) (bytes : List ℕ) (block : ℕ)
+pub flushed_off : (s : PageStoreView) (flash : FlashState) (counts : FlashCounts) (page : PageNo) (bytes : List ℕ) (block : ℕ)
     (at : Ppn) → IsStoreSound s → s.world.flash.on ≡ true → s.waits ≡ None → IsBlockTableSound s.world.table
     → mapped_with s.world.places page ≤ page_capacity s.world → IsWritePlace s.world.table block at.0
     → Makes Program s.world (Some Off) (record s.world { flash = flash; counts = counts })

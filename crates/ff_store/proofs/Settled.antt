@@ -23,7 +23,7 @@ use Rattle.ff_gc.proofs.Retaining.{cell_at-set_other}
 use Rattle.ff_gc.specs.Cells.{AreMapped, AreSealed}
 use Rattle.ff_gc.specs.Running.{IsAt, IsLive}
 use Rattle.ff_gc.specs.Steps.{Makes}
-use Rattle.ff_gc.specs.declared.counts.Counts.{Counts}
+use Rattle.ff_gc.specs.declared.counts.FlashCounts.{FlashCounts}
 use Rattle.ff_gc.specs.declared.counts.OperationKind.TheVariants.{Seal}
 use Rattle.ff_store.proofs.Settling.{counted_there, mapped_all, mapped_block, mapped_count_with, mapped_in_with, mapped_not_waiting, new_or_old, one_if, pending_in, placed_counted, placed_mapped, sealed_all, sealed_cells_of, usable_not}
 use Rattle.ff_store.proofs.Around.{IsAside, at_aside}
@@ -133,7 +133,7 @@ version_made : (s : PageStoreView) (p : Pending) → IsStoreSound s → IsPendin
 version_made s p sound w = let drawn = w.drawn in let most = sound.always.safe.drawn in omega arith
 
 -- the store after a seal that worked
-pub settled_ok : (s : PageStoreView) (flash : FlashState) (counts : Counts) (p : Pending) → IsStoreSound s
+pub settled_ok : (s : PageStoreView) (flash : FlashState) (counts : FlashCounts) (p : Pending) → IsStoreSound s
     → s.world.flash.on ≡ true → s.waits ≡ Some p → Makes Seal s.world None (record s.world { flash = flash; counts = counts })
     → Seals s.world.flash.cells p.at.0 (Ok tt) flash.cells
     → IsStoreSound (record s {
@@ -202,7 +202,7 @@ settled_ok s flash counts p sound on waits m seals =
     }
 
 -- the store after a seal that failed
-pub settled_failed : (s : PageStoreView) (flash : FlashState) (counts : Counts) (p : Pending) → IsStoreSound s
+pub settled_failed : (s : PageStoreView) (flash : FlashState) (counts : FlashCounts) (p : Pending) → IsStoreSound s
     → s.world.flash.on ≡ true → s.waits ≡ Some p
     → Makes Seal s.world (Some Failed) (record s.world { flash = flash; counts = counts })
     → Seals s.world.flash.cells p.at.0 (Err Failed) flash.cells
@@ -252,7 +252,7 @@ cut_mapped s p w waits old = record {
 }
 
 -- the store after a seal that was cut
-pub settled_off : (s : PageStoreView) (flash : FlashState) (counts : Counts) (p : Pending) → IsStoreSound s
+pub settled_off : (s : PageStoreView) (flash : FlashState) (counts : FlashCounts) (p : Pending) → IsStoreSound s
     → s.world.flash.on ≡ true → s.waits ≡ Some p
     → Makes Seal s.world (Some Off) (record s.world { flash = flash; counts = counts })
     → Seals s.world.flash.cells p.at.0 (Err Off) flash.cells → IsStoreSound (with_flash s flash counts)

@@ -10,7 +10,7 @@ use Rattle.ff_space.specs.declared.block.BlockState.TheVariants.{Full, Open}
 use Rattle.ff_map.specs.PageMap.{empty_map}
 use Rattle.ff_gc.specs.Cells.{AreMapped, IsSafe, Unmapped}
 use Rattle.ff_gc.specs.Collector.{is_busy, new_collector}
-use Rattle.ff_gc.specs.Counts.{no_counts, total_of}
+use Rattle.ff_gc.specs.FlashCounts.{no_counts, total_of}
 use Rattle.ff_gc.specs.Running.{IsLive}
 use Rattle.ff_gc.specs.World.{Fits, World}
 use Rattle.ff_gc.specs.declared.phase.Phase.{Phase}

@@ -11,7 +11,7 @@ ghost use Rattle.ff_store.specs.Remounted.{IsHandedBack, IsRemountable, IsRemoun
 use crate::store::PageStore;
 use ff_base::{Block, Geometry, NoMemory};
 use ff_flash::{Flash, FlashStop};
-use ff_gc::{Collector, Counts};
+use ff_gc::{Collector, FlashCounts};
 use ff_scan::{Found, Scan};
 use std::alloc::Global;
 
@@ -157,7 +157,7 @@ impl<F: Flash> PageStore<F> {
             collector,
             space: found.space,
             places: found.places,
-            counts: Counts::new(),
+            counts: FlashCounts::new(),
             waits: None,
             owed: false,
             per_block: geometry.per_block,

@@ -19,7 +19,7 @@ ghost use Rattle.ff_store.specs.declared.store.FlushStep.TheVariants.{Collected,
 use crate::pending::Pending;
 use ff_base::{Geometry, NoMemory, PageBuf, PageNo, Ppn};
 use ff_flash::{Flash, FlashStop};
-use ff_gc::{Collector, Counts, GcStep, OperationKind};
+use ff_gc::{Collector, FlashCounts, GcStep, OperationKind};
 use ff_map::PageMap;
 use ff_space::BlockTable;
 use std::alloc::Global;
@@ -43,7 +43,7 @@ pub struct PageStore<F: Flash> {
     pub(crate) collector: Collector,
     pub(crate) space: BlockTable,
     pub(crate) places: PageMap,
-    pub(crate) counts: Counts,
+    pub(crate) counts: FlashCounts,
     pub(crate) waits: Option<Pending>,
     pub(crate) owed: bool,
     pub(crate) per_block: u32,
@@ -114,7 +114,7 @@ impl<F: Flash> PageStore<F> {
                 collector: parts.collector,
                 space: parts.space,
                 places: parts.places,
-                counts: Counts::new(),
+                counts: FlashCounts::new(),
                 waits: None,
                 owed: false,
                 per_block: geometry.per_block,
@@ -159,7 +159,7 @@ impl<F: Flash> PageStore<F> {
     }
 
     /// How many operations of each kind were begun since the store was made.
-    pub fn counts(&self) -> Counts
+    pub fn counts(&self) -> FlashCounts
         ensures { result ≡ self.now.world.counts }
     {
         self.counts

@@ -5,12 +5,12 @@ ghost use Rattle.ff_cache.specs.Cache.{values_at, with_value, IsInSet};
 ghost use Rattle.ff_cache.specs.Slots.{held, is_empty, cache_slot_at, slot_filled, slot_flushed, slot_flushing, slot_pinned, slot_written};
 ghost use Rattle.ff_rrip.specs.Ways.{long_value};
 
-use crate::{Cache, Slot};
+use crate::{Cache, CacheSlot};
 use ff_base::{PageBuf, PageNo};
 use ff_model::Piece;
 use ff_rrip::Ways;
 
-fn write_at(slots: &mut Vec<Slot>, k: u32, line: u8, from: u8, piece: &Piece)
+fn write_at(slots: &mut Vec<CacheSlot>, k: u32, line: u8, from: u8, piece: &Piece)
     requires slot { k < length slots.old.items }
     requires line { line < PAGE_LINES }
     requires span { from + length piece.now ≤ LINE_BYTES }
@@ -20,7 +20,7 @@ fn write_at(slots: &mut Vec<Slot>, k: u32, line: u8, from: u8, piece: &Piece)
     slots[k as usize].write(line, from, piece);
 }
 
-fn pin_at(slots: &mut Vec<Slot>, k: u32, on: bool)
+fn pin_at(slots: &mut Vec<CacheSlot>, k: u32, on: bool)
     requires { k < length slots.old.items }
     ensures { slots.new.items
         ≡ slice_set slots.old.items k (slot_pinned on (cache_slot_at slots.old.items k)) }
@@ -28,7 +28,7 @@ fn pin_at(slots: &mut Vec<Slot>, k: u32, on: bool)
     slots[k as usize].pin(on);
 }
 
-fn begin_flush_at(slots: &mut Vec<Slot>, k: u32)
+fn begin_flush_at(slots: &mut Vec<CacheSlot>, k: u32)
     requires { k < length slots.old.items }
     ensures { slots.new.items
         ≡ slice_set slots.old.items k (slot_flushing (cache_slot_at slots.old.items k)) }
@@ -36,7 +36,7 @@ fn begin_flush_at(slots: &mut Vec<Slot>, k: u32)
     slots[k as usize].begin_flush();
 }
 
-fn end_flush_at(slots: &mut Vec<Slot>, k: u32)
+fn end_flush_at(slots: &mut Vec<CacheSlot>, k: u32)
     requires { k < length slots.old.items }
     ensures { slots.new.items
         ≡ slice_set slots.old.items k (slot_flushed (cache_slot_at slots.old.items k)) }
@@ -44,7 +44,7 @@ fn end_flush_at(slots: &mut Vec<Slot>, k: u32)
     slots[k as usize].end_flush();
 }
 
-fn fill_at(slots: &mut Vec<Slot>, k: u32, page: PageNo, from: &PageBuf)
+fn fill_at(slots: &mut Vec<CacheSlot>, k: u32, page: PageNo, from: &PageBuf)
     requires { k < length slots.old.items }
     ensures { slots.new.items ≡ slice_set slots.old.items k (slot_filled page.0 from.now) }
 {

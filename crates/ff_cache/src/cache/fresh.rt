@@ -5,17 +5,17 @@ ghost use Rattle.ff_cache.specs.Cache.{fresh_cache};
 ghost use Rattle.ff_cache.specs.Slots.{empty_slot};
 ghost use Rattle.ff_rrip.specs.Ways.{distant_value};
 
-use crate::{Cache, Slot};
+use crate::{Cache, CacheSlot};
 use ff_base::{Geometry, NoMemory};
 use ff_rrip::Ways;
 use std::alloc::Global;
 
-fn empty_slots(alloc: Global, count: u32) -> Result<Vec<Slot>, NoMemory>
+fn empty_slots(alloc: Global, count: u32) -> Result<Vec<CacheSlot>, NoMemory>
     ensures { IfOk result (λ slots. slots.items ≡ replicate count empty_slot) }
 {
     let mut slots = Vec::new(alloc);
     for _ in 0..count {
-        slots.push(Slot::empty(alloc)?)?;
+        slots.push(CacheSlot::empty(alloc)?)?;
     }
     Ok(slots)
 }

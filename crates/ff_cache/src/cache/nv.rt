@@ -4,7 +4,7 @@ ghost use Rattle.ff_cache.specs.Nv.{way_of, ways_of};
 
 mod mounting;
 
-use crate::{Cache, Slot};
+use crate::{Cache, CacheSlot};
 use ff_base::{Marks, NoMemory, PageBuf};
 use std::alloc::Global;
 use std::marker::Model;
@@ -12,7 +12,7 @@ use std::marker::Model;
 /// The battery-backed content: each slot's page, dirty flag and bytes, and the persist marks.
 #[derive(Drop)]
 pub struct Nv {
-    slots: Vec<Slot>,
+    slots: Vec<CacheSlot>,
     marks: Marks,
 }
 
@@ -33,12 +33,12 @@ pub struct NvParts {
     pub marks: Marks,
 }
 
-fn copy_slot(alloc: Global, slot: &Slot) -> Result<Slot, NoMemory>
+fn copy_slot(alloc: Global, slot: &CacheSlot) -> Result<CacheSlot, NoMemory>
     ensures { IfOk result (λ copy. way_of copy ≡ way_of slot.now) }
 {
     let mut bytes = PageBuf::new(alloc)?;
     bytes.copy_from(slot.bytes.as_slice());
-    Ok(Slot {
+    Ok(CacheSlot {
         page: slot.page,
         dirty: slot.dirty,
         touched: false,
@@ -47,7 +47,7 @@ fn copy_slot(alloc: Global, slot: &Slot) -> Result<Slot, NoMemory>
     })
 }
 
-fn copy_slots(alloc: Global, slots: &[Slot]) -> Result<Vec<Slot>, NoMemory>
+fn copy_slots(alloc: Global, slots: &[CacheSlot]) -> Result<Vec<CacheSlot>, NoMemory>
     ensures { IfOk result (λ copies. ways_of copies.items ≡ ways_of slots.now) }
 {
     let mut copies = Vec::new(alloc);

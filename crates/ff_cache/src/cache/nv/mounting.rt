@@ -6,19 +6,19 @@ ghost use Rattle.ff_cache.specs.Slots.{cache_slot_at, ArePlaced};
 ghost use Rattle.ff_rrip.specs.Ways.{long_value};
 
 use super::{Nv, NvParts};
-use crate::{Cache, Slot};
+use crate::{Cache, CacheSlot};
 use ff_base::{Geometry, NoMemory};
 use ff_rrip::Ways;
 use std::alloc::Global;
 
-fn calm_slot(slot: &mut Slot)
+fn calm_slot(slot: &mut CacheSlot)
     ensures { slot.new ≡ slot_of (way_of slot.old) }
 {
     slot.touched = false;
     slot.pinned = false;
 }
 
-fn calm_at(slots: &mut Vec<Slot>, k: usize)
+fn calm_at(slots: &mut Vec<CacheSlot>, k: usize)
     requires { k < length slots.old.items }
     ensures { slots.new.items
         ≡ slice_set slots.old.items k (slot_of (way_of (cache_slot_at slots.old.items k))) }
@@ -27,7 +27,7 @@ fn calm_at(slots: &mut Vec<Slot>, k: usize)
 }
 
 #[tactic(auto, using(crate::proofs::Mounted::calmed))]
-fn calm(slots: &mut Vec<Slot>)
+fn calm(slots: &mut Vec<CacheSlot>)
     ensures { slots.new.items ≡ slots_of (ways_of slots.old.items) }
 {
     for k in 0..slots.len() {
@@ -47,7 +47,7 @@ fn mount_way(made: &mut Ways, way: u32, empty: bool)
     }
 }
 
-fn mounted_ways(alloc: Global, slots: &[Slot], from: u32, ways: u32) -> Result<Ways, NoMemory>
+fn mounted_ways(alloc: Global, slots: &[CacheSlot], from: u32, ways: u32) -> Result<Ways, NoMemory>
     requires within { from + ways ≤ length slots.now }
     requires few { ways ≤ 16 }
     requires fits { length slots.now ≤ 4096 }
@@ -65,7 +65,7 @@ fn mounted_ways(alloc: Global, slots: &[Slot], from: u32, ways: u32) -> Result<W
 #[tactic(auto, using(crate::proofs::Sets::set_fits, crate::proofs::Mounted::mounted_more))]
 fn mounted_values(
     alloc: Global,
-    slots: &[Slot],
+    slots: &[CacheSlot],
     sets: u32,
     ways: u32,
 ) -> Result<Vec<Ways>, NoMemory>
