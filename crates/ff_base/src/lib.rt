@@ -8,8 +8,6 @@ mod memory;
 mod numbers;
 mod page;
 mod reserved;
-#[cfg(test)]
-mod tests;
 
 pub use geometry::Geometry;
 pub use limits::{Limit, LimitName};

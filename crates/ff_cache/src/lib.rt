@@ -3,8 +3,6 @@
 
 mod cache;
 mod slot;
-#[cfg(test)]
-mod tests;
 
 pub use cache::Cache;
 pub use cache::nv::{Nv, NvParts};

@@ -68,14 +68,69 @@ fn supply(
     ensures window { IfOk result (λ supplies.
         supplies.window ≡ record { posts = []; room = geometry.now.window }) }
 {
+    let base = base.copy(alloc)?;
+    let Lists { history, log } = supply_lists(alloc, room)?;
+    let Buffers {
+        frames,
+        plb,
+        window,
+        page,
+    } = supply_buffers(alloc, geometry)?;
     Ok(Supplies {
-        base: base.copy(alloc)?,
-        history: History::new(alloc, room.calls)?,
-        log: Log::new(alloc, room.turns)?,
-        frames: Frames::new(alloc, geometry.frames)?,
-        plb: Plb::new(alloc, geometry.plb)?,
-        window: Window::new(alloc, geometry.window)?,
-        page: PageBuf::new(alloc)?,
+        base,
+        history,
+        log,
+        frames,
+        plb,
+        window,
+        page,
+    })
+}
+
+// The history and the log of a session that has not begun.
+#[derive(Drop)]
+struct Lists {
+    history: History,
+    log: Log,
+}
+
+fn supply_lists(alloc: Global, room: Room) -> Result<Lists, NoMemory>
+    ensures { IfOk result (λ lists. lists ≡ record {
+      history = record { entries = []; room = room.calls };
+      log = record { turns = []; room = room.turns };
+    }) }
+{
+    let history = History::new(alloc, room.calls)?;
+    let log = Log::new(alloc, room.turns)?;
+    Ok(Lists { history, log })
+}
+
+// Where it copies pages and keeps posts, all empty.
+#[derive(Drop)]
+struct Buffers {
+    frames: Frames,
+    plb: Plb,
+    window: Window,
+    page: PageBuf,
+}
+
+fn supply_buffers(alloc: Global, geometry: &Geometry) -> Result<Buffers, NoMemory>
+    requires { IsWithinLimits geometry.now }
+    ensures frames { IfOk result (λ buffers.
+        buffers.frames ≡ replicate geometry.now.frames free_frame) }
+    ensures plb { IfOk result (λ buffers. buffers.plb ≡ replicate geometry.now.plb None) }
+    ensures window { IfOk result (λ buffers.
+        buffers.window ≡ record { posts = []; room = geometry.now.window }) }
+{
+    let page = PageBuf::new(alloc)?;
+    let frames = Frames::new(alloc, geometry.frames)?;
+    let plb = Plb::new(alloc, geometry.plb)?;
+    let window = Window::new(alloc, geometry.window)?;
+    Ok(Buffers {
+        frames,
+        plb,
+        window,
+        page,
     })
 }
 

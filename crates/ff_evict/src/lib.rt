@@ -4,8 +4,6 @@
 
 mod evictor;
 mod picker;
-#[cfg(test)]
-mod tests;
 
 pub use evictor::Evictor;
 pub use picker::{Pick, Picker};

@@ -1,5 +1,5 @@
 // The injector of faults: which operations of a simulated flash fail or are cut, and whether its power is on.
-ghost use Rattle.std.specs.Prelude.{◌≡◌, ◌<◌, ◌+◌, IfOk, IsTrue, length, if◌then◌else◌, is_some};
+ghost use Rattle.std.specs.Prelude.{◌≡◌, ◌<◌, ◌+◌, ◌↔◌, IfOk, IsTrue, length, if◌then◌else◌, is_some};
 ghost use Rattle.ff_base.specs.Count.{HasCountLeft};
 ghost use Rattle.ff_flash.specs.Injector.{arrive_of, is_powered, power_after};
 ghost use Rattle.ff_flash.specs.Plans.{IsPlan, RisesFrom, cut_at, cut_injected, cut_numbers, is_listed, listed_count, planned_of};
@@ -42,7 +42,7 @@ impl Model for Injector {
 }
 
 impl Injector {
-    ghost use Rattle.ff_flash.specs.Injector.{IsInjectorSound, fresh_injector, injector_after, next_injected, powered_down};
+    ghost use Rattle.ff_flash.specs.Injector.{fresh_injector, injector_after, next_injected, powered_down};
 
     /// No operation was made, and the power is on.
     pub fn new(plan: Plan) -> Injector
@@ -119,11 +119,11 @@ impl Injector {
         }
     }
 
-    pub fn plan(&self) -> &Plan
-        ensures plan { planned_of result.now ≡ self.now.plan }
-        ensures kept { IsInjectorSound self.now }
+    /// Whether it goes by this plan.
+    pub fn plan_is(&self, plan: &Plan) -> bool
+        ensures { IsTrue result ↔ (self.now.plan ≡ planned_of plan.now) }
     {
-        &self.plan
+        self.plan.is(plan)
     }
 
     /// How many of the operations that were made are listed to fail.

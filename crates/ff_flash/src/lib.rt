@@ -10,8 +10,6 @@ mod page_states;
 mod plan;
 mod sim_flash;
 mod spare;
-#[cfg(test)]
-mod tests;
 
 pub use flash::{Flash, FlashStop, Probe};
 pub use plan::{CutAt, Plan};

@@ -92,16 +92,7 @@ impl SimFlash {
     pub fn plan_is(&self, plan: &Plan) -> bool
         ensures { IsTrue result ↔ (self.now.plan ≡ Some (planned_of plan.now)) }
     {
-        self.injector.plan().is(plan)
-    }
-}
-
-#[cfg(test)]
-impl SimFlash {
-    pub(crate) fn has_block(&self, block: Block) -> bool
-        ensures { IsTrue result → block.0 < self.now.blocks }
-    {
-        block.0 < self.blocks
+        self.injector.plan_is(plan)
     }
 }
 

@@ -4,8 +4,6 @@
 
 mod frame;
 mod frames;
-#[cfg(test)]
-mod tests;
 mod used;
 
 pub use frame::Frame;

@@ -13,6 +13,3 @@ mod phase;
 pub use collector::{Collector, GcStep};
 pub use counts::{FlashCounts, OperationKind};
 pub use phase::{Job, Original, Phase};
-
-#[cfg(test)]
-mod tests;

@@ -3,8 +3,6 @@
 
 mod input_bytes;
 mod reading;
-#[cfg(test)]
-mod tests;
 
 pub use input_bytes::INPUT_LIMIT;
 pub use reading::{Asked, BadInput, read_asked};

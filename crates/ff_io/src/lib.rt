@@ -8,8 +8,6 @@ mod host_source;
 mod memory_sink;
 mod memory_source;
 mod retries;
-#[cfg(test)]
-mod tests;
 mod traits;
 
 pub use host_sink::HostSink;

@@ -2,7 +2,5 @@
 #![tactic(auto)]
 
 mod kept;
-#[cfg(test)]
-mod tests;
 
 pub use kept::kept_length;

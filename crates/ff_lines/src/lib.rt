@@ -5,8 +5,6 @@ mod device;
 mod line_bytes;
 mod line_mask;
 mod post;
-#[cfg(test)]
-mod tests;
 
 pub use device::{LineDevice, Work};
 pub use line_bytes::{overlay, overlay_page};

@@ -5,8 +5,6 @@
 mod owners;
 mod page_map;
 mod places;
-#[cfg(test)]
-mod tests;
 
 pub use page_map::PageMap;
 pub use places::{Mapping, Move};

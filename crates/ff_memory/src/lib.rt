@@ -10,8 +10,6 @@ mod load;
 mod mark;
 mod memory;
 mod store;
-#[cfg(test)]
-mod tests;
 
 pub use access::{Access, Side, What};
 pub use memory::Memory;

@@ -9,8 +9,6 @@ mod image;
 mod judge;
 mod op;
 mod piece;
-#[cfg(test)]
-mod tests;
 
 pub use counts::{Counts, Kind, KindTurns, TurnCounts};
 pub use flat::flat_byte;

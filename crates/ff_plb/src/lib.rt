@@ -4,8 +4,6 @@
 
 mod plb;
 mod slot;
-#[cfg(test)]
-mod tests;
 
 pub use plb::Plb;
 pub use slot::{Flight, Landing, NextStep, Slot, Way};

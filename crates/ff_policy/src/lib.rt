@@ -4,8 +4,6 @@
 
 mod counters;
 mod policy;
-#[cfg(test)]
-mod tests;
 mod tuner;
 
 pub use policy::Policy;

@@ -11,8 +11,6 @@ mod line;
 mod parts;
 mod session;
 mod summary;
-#[cfg(test)]
-mod tests;
 mod writing;
 
 pub use line::{LINE_ROOM, Line};

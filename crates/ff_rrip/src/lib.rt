@@ -2,8 +2,6 @@
 //! hit is expected again soon, one that was filled late, and the least of those that are expected last gives way.
 #![tactic(auto)]
 
-#[cfg(test)]
-mod tests;
 mod values;
 mod ways;
 

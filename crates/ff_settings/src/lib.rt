@@ -9,8 +9,6 @@ mod keys;
 mod kinds;
 mod names;
 mod reading;
-#[cfg(test)]
-mod tests;
 mod values;
 
 pub use given::{BadSettings, Settings};

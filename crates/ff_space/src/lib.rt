@@ -5,7 +5,5 @@
 mod block;
 mod scans;
 mod table;
-#[cfg(test)]
-mod tests;
 
 pub use table::{BlockTable, Place};

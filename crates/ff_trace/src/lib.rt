@@ -6,8 +6,6 @@ mod fields;
 mod hex_pairs;
 mod row;
 mod tally;
-#[cfg(test)]
-mod tests;
 mod trace_rows;
 
 pub use fields::CALLERS;

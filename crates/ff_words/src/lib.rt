@@ -4,8 +4,6 @@
 mod asked;
 mod parser;
 mod reading;
-#[cfg(test)]
-mod tests;
 
 pub use asked::{BadWords, Command};
 pub use reading::command;

@@ -1,0 +1,157 @@
+// Pages, marks and the bounds of a geometry.
+use ff_base::{Geometry, Limit, LimitName, Marks, PageBuf, PageNo};
+use std::test::Fail;
+
+#[test]
+fn a_new_page_is_zeros_and_keeps_a_line(rt: HostRuntime) -> Result<(), Fail> {
+    let mut page = PageBuf::new(rt.alloc())?;
+    assert_eq!(rt; page.line(63), [0; 64]);
+    page.set_line(1, &[7; 64]);
+    assert_eq!(rt; page.line(1), [7; 64]);
+    assert_eq!(rt; page.line(0), [0; 64]);
+    let copy = page.copy(rt.alloc())?;
+    page.clear();
+    assert_eq!(rt; copy.line(1), [7; 64]);
+    assert_eq!(rt; page.line(1), [0; 64]);
+    Ok(())
+}
+
+#[test]
+fn marks_are_kept_by_page(rt: HostRuntime) -> Result<(), Fail> {
+    let mut marks = Marks::new(rt.alloc(), 3)?;
+    assert_eq!(rt; marks.lines(PageNo(2)), 0);
+    marks.set_lines(PageNo(1), 0x8000_0000_0000_0001);
+    marks.set_lines(PageNo(2), 6);
+    marks.set_lines(PageNo(2), 5);
+    assert_eq!(rt; marks.lines(PageNo(0)), 0);
+    assert_eq!(rt; marks.lines(PageNo(1)), 0x8000_0000_0000_0001);
+    assert_eq!(rt; marks.copy(rt.alloc())?.lines(PageNo(2)), 5);
+    Ok(())
+}
+
+fn geometry(numbers: [u32; 9]) -> Geometry {
+    let [
+        blocks,
+        per_block,
+        pages,
+        sets,
+        ways,
+        frames,
+        plb,
+        window,
+        low,
+    ] = numbers;
+    Geometry {
+        blocks,
+        per_block,
+        pages,
+        sets,
+        ways,
+        frames,
+        plb,
+        window,
+        low,
+    }
+}
+
+#[test]
+fn bounds_are_allowed(rt: HostRuntime) {
+    assert_eq!(rt; Geometry::default(), geometry([8, 4, 16, 1, 4, 4, 2, 4, 1]));
+    assert_eq!(rt; Geometry::default().capacity(), 27);
+    for numbers in [
+        [8, 4, 16, 1, 4, 4, 2, 4, 1],
+        [3, 2, 1, 1, 1, 0, 1, 1, 1],
+        [4096, 4, 65536, 4096, 1, 4096, 64, 64, 8],
+        [64, 256, 65536, 256, 16, 4096, 64, 64, 8],
+    ] {
+        assert_eq!(rt; geometry(numbers).check(), Ok(()));
+    }
+}
+
+// The numbers of a geometry, and the limit that they break first: its name, value and bounds.
+type Broken = ([u32; 9], LimitName, u32, u32, u32);
+
+const BROKEN: [Broken; 21] = [
+    ([2, 4, 16, 1, 4, 4, 2, 4, 1], LimitName::Blocks, 2, 3, 4096),
+    (
+        [4097, 4, 16, 1, 4, 4, 2, 4, 1],
+        LimitName::Blocks,
+        4097,
+        3,
+        4096,
+    ),
+    ([8, 1, 16, 1, 4, 4, 2, 4, 1], LimitName::PerBlock, 1, 2, 256),
+    (
+        [8, 257, 16, 1, 4, 4, 2, 4, 1],
+        LimitName::PerBlock,
+        257,
+        2,
+        256,
+    ),
+    ([8, 4, 0, 1, 4, 4, 2, 4, 1], LimitName::Pages, 0, 1, 65536),
+    (
+        [8, 4, 65537, 1, 4, 4, 2, 4, 1],
+        LimitName::Pages,
+        65537,
+        1,
+        65536,
+    ),
+    ([8, 4, 16, 0, 4, 4, 2, 4, 1], LimitName::Sets, 0, 1, 4096),
+    (
+        [8, 4, 16, 4097, 4, 4, 2, 4, 1],
+        LimitName::Sets,
+        4097,
+        1,
+        4096,
+    ),
+    ([8, 4, 16, 1, 0, 4, 2, 4, 1], LimitName::Ways, 0, 1, 16),
+    ([8, 4, 16, 1, 17, 4, 2, 4, 1], LimitName::Ways, 17, 1, 16),
+    (
+        [8, 4, 16, 1, 4, 4097, 2, 4, 1],
+        LimitName::Frames,
+        4097,
+        0,
+        4096,
+    ),
+    ([8, 4, 16, 1, 4, 4, 0, 4, 1], LimitName::Plb, 0, 1, 64),
+    ([8, 4, 16, 1, 4, 4, 65, 4, 1], LimitName::Plb, 65, 1, 64),
+    ([8, 4, 16, 1, 4, 4, 2, 0, 1], LimitName::Window, 0, 1, 64),
+    ([8, 4, 16, 1, 4, 4, 2, 65, 1], LimitName::Window, 65, 1, 64),
+    ([8, 4, 16, 1, 4, 4, 2, 4, 0], LimitName::Low, 0, 1, 8),
+    ([8, 4, 16, 1, 4, 4, 2, 4, 9], LimitName::Low, 9, 1, 8),
+    (
+        [4096, 256, 16, 1, 4, 4, 2, 4, 1],
+        LimitName::FlashPages,
+        1048576,
+        6,
+        16384,
+    ),
+    (
+        [8, 4, 16, 4096, 2, 4, 2, 4, 1],
+        LimitName::CacheWays,
+        8192,
+        1,
+        4096,
+    ),
+    ([8, 4, 16, 4096, 17, 4, 2, 4, 9], LimitName::Ways, 17, 1, 16),
+    (
+        [4096, 256, 16, 4096, 2, 4, 2, 4, 1],
+        LimitName::FlashPages,
+        1048576,
+        6,
+        16384,
+    ),
+];
+
+#[test]
+fn the_first_broken_bound_is_named(rt: HostRuntime) {
+    for (numbers, name, value, least, greatest) in BROKEN {
+        let limit = Limit {
+            name,
+            value,
+            least,
+            greatest,
+        };
+        assert_eq!(rt; geometry(numbers).check(), Err(limit));
+    }
+}

@@ -1,0 +1,143 @@
+// Sources and sinks that fail, in memory and over streams.
+use ff_io::{Failed, HostSink, HostSource, MemorySink, MemorySource, Sink, Source};
+use std::io::{self, ErrorKind, Read, Write};
+use std::test::Fail;
+
+#[test]
+fn a_source_fails_at_its_second_read(rt: HostRuntime) -> Result<(), Fail> {
+    let bytes = vec![in rt.alloc(); 1, 2, 3, 4, 5]?;
+    let fail = vec![in rt.alloc(); 2]?;
+    let mut source = MemorySource::new(bytes, fail);
+    let mut into = [0; 2];
+    let wanted = [
+        (Ok(2), [1, 2]),
+        (Err(Failed), [1, 2]),
+        (Ok(2), [3, 4]),
+        (Ok(1), [5, 4]),
+        (Ok(0), [5, 4]),
+    ];
+    for (answer, held) in wanted {
+        assert_eq!(rt; read_from(&mut source, &mut into), answer);
+        assert_eq!(rt; into, held);
+    }
+    assert_eq!(rt; source.faults(), 1);
+    Ok(())
+}
+
+#[test]
+fn a_sink_fails_at_its_second_write_and_where_a_piece_does_not_fit(
+    rt: HostRuntime,
+) -> Result<(), Fail> {
+    let fail = vec![in rt.alloc(); 2]?;
+    let mut sink = MemorySink::new(rt.alloc(), 4, fail)?;
+    assert_eq!(rt; write_to(&mut sink, &[1, 2]), Ok(()));
+    assert_eq!(rt; write_to(&mut sink, &[3]), Err(Failed));
+    assert_eq!(rt; write_to(&mut sink, &[3, 4, 5]), Err(Failed));
+    assert_eq!(rt; sink.written(), [1, 2].as_slice());
+    assert_eq!(rt; write_to(&mut sink, &[3, 4]), Ok(()));
+    assert_eq!(rt; write_to(&mut sink, &[]), Ok(()));
+    assert_eq!(rt; sink.written(), [1, 2, 3, 4].as_slice());
+    assert_eq!(rt; sink.faults(), 2);
+    Ok(())
+}
+
+#[test]
+fn a_stream_that_fails_is_a_failed_read(rt: HostRuntime) -> Result<(), Fail> {
+    for (interruptions, failures, answer, held) in [
+        (0, 0, Ok(1), [9, 4]),
+        (999, 0, Ok(1), [9, 4]),
+        (1000, 0, Err(Failed), [4, 4]),
+        (0, 1, Err(Failed), [4, 4]),
+    ] {
+        let stream = Stream {
+            interruptions,
+            failures,
+        };
+        let mut source = HostSource::new(rt.alloc(), stream)?;
+        let mut into = [4; 2];
+        assert_eq!(rt; read_from(&mut source, &mut into), answer);
+        assert_eq!(rt; into, held);
+        assert_eq!(rt; read_from(&mut source, &mut into), Ok(1));
+    }
+    Ok(())
+}
+
+#[test]
+fn a_stream_that_fails_is_a_failed_write(rt: HostRuntime) -> Result<(), Fail> {
+    let long = vec![in rt.alloc(); 7; 100_000]?;
+    for (interruptions, failures, written, flushed) in [
+        (0, 0, Ok(()), Ok(())),
+        (999, 0, Ok(()), Ok(())),
+        (0, 1, Err(Failed), Ok(())),
+        (0, 2, Err(Failed), Err(Failed)),
+    ] {
+        let stream = Stream {
+            interruptions,
+            failures,
+        };
+        let mut sink = HostSink::new(rt.alloc(), stream)?;
+        assert_eq!(rt; write_to(&mut sink, b"a line\n"), Ok(()));
+        assert_eq!(rt; write_to(&mut sink, &long), written);
+        assert_eq!(rt; sink.flush(), flushed);
+        assert_eq!(rt; sink.flush(), Ok(()));
+    }
+    Ok(())
+}
+
+#[test]
+fn standard_streams_are_read_and_written(rt: HostRuntime) -> Result<(), Fail> {
+    let mut source = HostSource::new(rt.alloc(), rt.stdin())?;
+    assert_eq!(rt; read_from(&mut source, &mut []), Ok(0));
+    let mut sink = HostSink::new(rt.alloc(), rt.stdout())?;
+    assert_eq!(rt; write_to(&mut sink, b"a line\n"), Ok(()));
+    assert_eq!(rt; sink.flush(), Ok(()));
+    Ok(())
+}
+
+fn read_from(source: &mut impl Source, into: &mut [u8]) -> Result<usize, Failed> {
+    source.read(into)
+}
+
+fn write_to(sink: &mut impl Sink, piece: &[u8]) -> Result<(), Failed> {
+    sink.write(piece)
+}
+
+/// A stream whose first calls are interrupted, and whose next ones fail.
+#[derive(Drop)]
+struct Stream {
+    interruptions: u32,
+    failures: u32,
+}
+
+impl Stream {
+    fn next_call(&mut self) -> io::Result<()> {
+        if self.interruptions > 0 {
+            self.interruptions -= 1;
+            return Err(io::Error::from(ErrorKind::Interrupted));
+        }
+        if self.failures > 0 {
+            self.failures -= 1;
+            return Err(io::Error::from(ErrorKind::BrokenPipe));
+        }
+        Ok(())
+    }
+}
+
+impl Read for Stream {
+    fn read(&mut self, into: &mut [u8]) -> io::Result<usize> {
+        into.fill(9);
+        self.next_call()?;
+        Ok(into.len().min(1))
+    }
+}
+
+impl Write for Stream {
+    fn write(&mut self, piece: &[u8]) -> io::Result<usize> {
+        self.next_call()?;
+        Ok(piece.len())
+    }
+
+    fn flush(&mut self) -> io::Result<()> {
+        Ok(())
+    }
+}

@@ -1,0 +1,167 @@
+// Calls, replies, histories and images, each public call once.
+ghost use Rattle.std.specs.Prelude.{◌≤◌, length};
+
+use ff_base::{Caller, Geometry, LAST_EVENT, PageBuf, PageNo};
+use ff_model::{Entry, History, Image, Op, Piece, Reply, first_illegal, flat_byte};
+use std::test::Fail;
+
+fn entry(op: Op, reply: Reply) -> Entry {
+    Entry {
+        event: 0,
+        caller: Caller(0),
+        number: 0,
+        op,
+        reply,
+        faults: 0,
+    }
+}
+
+fn store(at: u32, bytes: &[u8]) -> Op
+    requires { length bytes.now ≤ 64 }
+{
+    Op::Store {
+        at,
+        bytes: Piece::from_slice(bytes),
+    }
+}
+
+#[test]
+fn the_latest_done_store_gives_a_byte(rt: HostRuntime) -> Result<(), Fail> {
+    let base = Image::new(rt.alloc(), 2)?;
+    let mut history = History::new(rt.alloc(), 5)?;
+    assert!(rt; history.is_empty());
+    history.push(entry(store(10, &[1, 2, 3]), Reply::Done));
+    history.push(entry(store(11, &[4]), Reply::Done));
+    history.push(entry(store(10, &[9, 9, 9]), Reply::Full));
+    history.push(entry(store(4096, &[5]), Reply::Done));
+    history.push(entry(Op::Verify, Reply::Done));
+    assert_eq!(rt; history.len(), 5);
+    assert!(rt; history.get(5).is_none());
+    assert!(rt; history.get(4).is_some_and(|last| last.op == Op::Verify));
+    for (at, byte) in [
+        (9, 0),
+        (10, 1),
+        (11, 4),
+        (12, 3),
+        (13, 0),
+        (4096, 5),
+        (8192, 0),
+    ] {
+        assert_eq!(rt; flat_byte(&base, &history, at), byte, "at {at}");
+    }
+    Ok(())
+}
+
+// An address, a length, and whether the span is in range of 16 pages.
+const SPANS: [(u32, u32, bool); 8] = [
+    (65535, 1, true),
+    (65536, 1, false),
+    (60, 4, true),
+    (60, 8, false),
+    (0, 0, false),
+    (64, 64, true),
+    (64, 65, false),
+    (4294967295, 1, false),
+];
+
+// A page, its first line, how many lines, and whether they are in range of 16 pages.
+const LINES: [(u32, u32, u32, bool); 6] = [
+    (15, 0, 64, true),
+    (15, 60, 5, false),
+    (15, 60, 0, false),
+    (15, 63, 1, true),
+    (16, 0, 1, false),
+    (15, 4294967295, 4294967295, false),
+];
+
+#[test]
+fn a_call_is_in_range_within_a_line_and_the_pages(rt: HostRuntime) {
+    for (at, len, is_in_range) in SPANS {
+        assert_eq!(rt;
+            Op::Load { at, len }.is_in_range(16),
+            is_in_range,
+            "at {at}"
+        );
+    }
+    for (page, from, count, is_in_range) in LINES {
+        let page = PageNo(page);
+        assert_eq!(rt; Op::Mark { page, from, count }.is_in_range(16), is_in_range);
+        assert_eq!(rt;
+            Op::Release { page, from, count }.is_in_range(16),
+            is_in_range
+        );
+    }
+    assert!(rt; Op::Verify.is_in_range(16));
+    assert!(rt; store(63, &[1]).is_in_range(16));
+    assert!(rt; !store(63, &[1, 2]).is_in_range(16));
+    assert!(rt; !store(63, &[]).is_in_range(16));
+}
+
+#[test]
+fn an_image_holds_pages_and_marks(rt: HostRuntime) -> Result<(), Fail> {
+    let mut page = PageBuf::new(rt.alloc())?;
+    page.set_line(1, &[7; 64]);
+    let mut image = Image::new(rt.alloc(), 2)?;
+    assert_eq!(rt; (image.holds(PageNo(1)), image.byte(8191)), (false, 0));
+    image.put(PageNo(1), &page)?;
+    image.set_marks(PageNo(0), 5);
+    let copy = image.copy(rt.alloc())?;
+    assert_eq!(rt; copy.pages(), 2);
+    assert!(rt; copy.holds(PageNo(1)) && !copy.holds(PageNo(0)));
+    assert!(rt; copy.page(PageNo(0)).is_none());
+    assert!(rt;
+        copy.page(PageNo(1))
+            .is_some_and(|page| page.line(1) == [7; 64])
+    );
+    assert_eq!(rt; copy.byte(4096 + 64), 7);
+    assert_eq!(rt; (copy.marks(PageNo(0)), copy.marks(PageNo(1))), (5, 0));
+    Ok(())
+}
+
+fn answered(event: u64, faults: u64, op: Op, reply: Reply) -> Entry {
+    Entry {
+        event,
+        caller: Caller(0),
+        number: 0,
+        op,
+        reply,
+        faults,
+    }
+}
+
+// An event number, a count of faults, a call and its reply, behind a store of 7 at address 10 in event 2. The second
+// row says whether it may stand there.
+fn last_entries() -> [(Entry, bool); 12] {
+    let load = || Op::Load { at: 10, len: 1 };
+    let byte = |byte| Reply::Bytes(Piece::from_slice(&[byte]));
+    [
+        (answered(3, 0, load(), byte(7)), true),
+        (answered(3, 0, load(), byte(0)), false),
+        (answered(2, 0, load(), byte(7)), false),
+        (answered(LAST_EVENT, 0, load(), Reply::Spent), true),
+        (answered(LAST_EVENT, 0, load(), byte(7)), false),
+        (answered(LAST_EVENT + 1, 0, load(), Reply::Spent), false),
+        (answered(3, 1, load(), Reply::Fault), true),
+        (answered(3, 0, load(), Reply::Fault), false),
+        (answered(3, 1, Op::Verify, Reply::Fault), false),
+        (
+            answered(3, 0, Op::Load { at: 60, len: 8 }, Reply::Range),
+            true,
+        ),
+        (answered(3, 0, store(4096, &[1]), Reply::Full), false),
+        (answered(3, 0, store(4096, &[1]), Reply::Done), true),
+    ]
+}
+
+#[test]
+fn the_first_illegal_entry_is_found(rt: HostRuntime) -> Result<(), Fail> {
+    let base = Image::new(rt.alloc(), 16)?;
+    for (entry, is_legal) in last_entries() {
+        let mut history = History::new(rt.alloc(), 2)?;
+        history.push(answered(2, 0, store(10, &[7]), Reply::Done));
+        history.push(entry);
+        let found = first_illegal(&base, &history, &Geometry::default(), 0, 0);
+        assert_eq!(rt; found, if is_legal { None } else { Some(1) });
+    }
+    Ok(())
+}
