@@ -1,3 +1,4 @@
+mod Choosing
 mod Fresh
 pub mod Full
 pub mod Held
