@@ -1,7 +1,8 @@
 -- The program's command line, as `clap` is told of it.
-use Rattle.std.specs.Prelude.{codes, pos, true, Some}
-use Rattle.clap.specs.Words.{App, Rule, new_app, new_rule, with_rule, with_subcommand}
+use Rattle.std.specs.Prelude.{◌≡◌, codes, pos, true, false, Some}
+use Rattle.clap.specs.Words.{App, Rule, app_of, new_app, new_rule, with_rule, with_subcommand}
 use Rattle.clap.specs.declared.builder.action.ArgAction.TheVariants.{Set}
+use Rattle.clap.specs.declared.builder.command.Command.{Command, out-Command}
 use Rattle.clap.specs.declared.builder.value_parser.ValueParser.TheVariants as vp
 
 -- the number behind `load`
@@ -33,3 +34,8 @@ flatflash =
     (with_subcommand (with_subcommand named (new_app (codes "schedule")).top)
     (new_app (codes "threads")).top)
     load_app.top
+
+-- a command is told so to `clap`, and none of its arguments is also its subcommands'
+pub record IsTold (command : Command) (app : App) : Type 0 where
+  pub told : app_of command ≡ app
+  pub own : (out-Command command).has_globals ≡ false

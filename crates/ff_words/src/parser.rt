@@ -1,7 +1,7 @@
 // The program's command line, told to `clap`.
-ghost use Rattle.std.specs.Prelude.{◌≡◌, IfOk};
-ghost use Rattle.clap.specs.Words.{app_of};
-ghost use Rattle.ff_words.specs.CommandLine.{flatflash};
+ghost use Rattle.std.specs.Prelude.{◌≡◌, IfOk, codes};
+ghost use Rattle.clap.specs.Words.{App, app_of, new_app, with_subcommand};
+ghost use Rattle.ff_words.specs.CommandLine.{IsTold, flatflash, load_app, named};
 
 use clap::{Arg, ArgAction, Command};
 use std::alloc::{AllocError, Global};
@@ -10,18 +10,36 @@ use std::alloc::{AllocError, Global};
 pub(crate) fn parser<'a>(alloc: Global) -> Result<Command<'a>, AllocError>
     ensures { IfOk result (λ parser. app_of parser ≡ flatflash) }
 {
+    let schedule = with(named(alloc), Command::new(alloc, "schedule"))?;
+    let threads = with(schedule, Command::new(alloc, "threads"))?;
+    with(threads, load(alloc)?)
+}
+
+// The program's name.
+fn named<'a>(alloc: Global) -> Command<'a>
+    ensures { IsTold result named }
+{
+    Command::new(alloc, "flatflash")
+        .disable_help_flag(true)
+        .disable_help_subcommand(true)
+        .subcommand_required(true)
+}
+
+// The command `load`, with its number.
+fn load<'a>(alloc: Global) -> Result<Command<'a>, AllocError>
+    ensures { IfOk result (λ load. IsTold load load_app) }
+{
     let number = Arg::new(alloc, "N")
         .required(true)
         .action(ArgAction::Set)
         .value_parser(clap::value_parser!(u32));
-    let load = Command::new(alloc, "load").arg(number)?;
-    let schedule = Command::new(alloc, "schedule");
-    let threads = Command::new(alloc, "threads");
-    let named = Command::new(alloc, "flatflash")
-        .disable_help_flag(true)
-        .disable_help_subcommand(true)
-        .subcommand_required(true);
-    let one = named.subcommand(schedule)?;
-    let two = one.subcommand(threads)?;
-    two.subcommand(load)
+    Command::new(alloc, "load").arg(number)
+}
+
+// A command with one more below it.
+fn with<'a>(above: Command<'a>, below: Command<'a>) -> Result<Command<'a>, AllocError>
+    ensures { (a b : App) → IsTold above.entry a → IsTold below.entry b
+        → IfOk result (λ all. IsTold all (with_subcommand a b.top)) }
+{
+    above.subcommand(below)
 }
