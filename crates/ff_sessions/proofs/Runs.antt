@@ -146,6 +146,14 @@ runs_first setup rows core begun room within =
       few = subst (λ (items : List Item). 0 + stops_left 0 setup.plan items ≤ 16) whole (omega arith);
     }
 
+-- the same by the core's own setup
+pub own_first : {T E : Type 0} (setup : Setup) (rows : List Row) (core : CoreView T E) → IsBegun setup (first_start setup) core
+    → HasRoomFor core (items_of rows) → AreWithin (length setup.plan.cuts) rows
+    → IsUnderWay (setup_in core) rows [] (record { core = core; at = record { row = 0; made = 0 } })
+own_first setup rows core begun room within =
+    subst (λ (s : Setup). IsUnderWay s rows [] (record { core = core; at = record { row = 0; made = 0 } }))
+    (sym (setup_is setup (first_start setup) core begun)) (runs_first setup rows core begun room within)
+
 -- one session more is over
 pub count_more : (sessions pushed : List Session) (session : Session) (count : ℕ) → pushed ≡ sessions ++ session ∷ []
     → length sessions ≡ count → length pushed ≡ count + 1

@@ -1,12 +1,12 @@
 // The chain of sessions of a run.
-ghost use Rattle.std.specs.Prelude.{◌≡◌, ◌≤◌, ◌*◌, All, IfOk, IfSome, length, vec_len};
+ghost use Rattle.std.specs.Prelude.{◌≡◌, ◌≤◌, ◌*◌, [], All, IfNone, IfOk, IfSome, None, OnOk, Some, length, vec_len};
 ghost use Rattle.ff_base.specs.Geometry.{IsWithinLimits};
 ghost use Rattle.ff_core.specs.Account.{start_of};
 ghost use Rattle.ff_flash.specs.Plans.{IsPlan, planned_of};
 ghost use Rattle.ff_trace.specs.Tally.{most_rows, most_turns};
 ghost use Rattle.ff_trace.specs.Within.{AreWithin, IsOfCaller, turns_asked};
 ghost use Rattle.ff_sessions.specs.Begun.{setup_in};
-ghost use Rattle.ff_sessions.specs.Following.{IsGoneOn, IsNextStep, CanGoOn, MayRun, cursor_after};
+ghost use Rattle.ff_sessions.specs.Following.{CanGoOn, IsGoneOn, IsNextStep, IsOpened, IsUnderWay, MayRun, cursor_after};
 ghost use Rattle.ff_sessions.specs.Sessions.{AreSessionsOf, setup_with};
 ghost use Rattle.ff_sessions.specs.Stops.{IsStopWithin};
 
@@ -19,6 +19,7 @@ use ff_base::{Geometry, NoMemory};
 use ff_core::Core;
 use ff_evict::{Pick, Picker};
 use ff_flash::{Plan, SimFlash};
+use ff_mount::Mounted;
 use ff_policy::{Tune, Tuner};
 use ff_trace::Row;
 use std::alloc::Global;
@@ -55,8 +56,7 @@ fn behind(stop: Stop, count: usize) -> Option<Cursor>
     }
 }
 
-// Opens the session behind one that is over, where that has an image and rows are left.
-#[tactic(auto, using(crate::proofs::Fewer::turns_left))]
+// Keeps a session that is over, and opens the one behind it where it has an image and rows are left.
 fn go_on<T: Tune + Drop, E: Pick + Drop>(
     alloc: Global,
     closed: Closed<T, E>,
@@ -78,22 +78,55 @@ fn go_on<T: Tune + Drop, E: Pick + Drop>(
         tuner,
         picker,
     } = closed;
-    let (Some(mounted), Some(at)) = (mounted, behind(stop, rows.len())) else {
+    let Some(mounted) = mounted else {
         return Ok(Step {
             session,
             next: None,
         });
+    };
+    let next = open_behind(
+        alloc, mounted, &session, stop, tuner, picker, rows, geometry,
+    )?;
+    Ok(Step { session, next })
+}
+
+// Opens the session behind one that is over, over its mounted parts, where rows are left.
+#[tactic(auto, using(crate::proofs::Fewer::turns_left))]
+fn open_behind<T: Tune + Drop, E: Pick + Drop>(
+    alloc: Global,
+    mounted: Mounted<SimFlash>,
+    session: &Session,
+    stop: Stop,
+    tuner: Tuner<T>,
+    picker: Picker<E>,
+    rows: &[Row],
+    geometry: &Geometry,
+) -> Result<Option<Open<T, E>>, NoMemory>
+    requires geometry { IsWithinLimits geometry.now }
+    requires parts { CanGoOn geometry.now session.now mounted.store mounted.cache mounted.marks }
+    requires within { IsStopWithin (length rows.now) stop }
+    requires few { length rows.now ≤ most_rows }
+    requires turns { turns_asked rows.now ≤ 4 * most_turns }
+    ensures next { IfOk result (λ next. IfSome next (IsOpened geometry.now rows.now (record {
+      session = session.now;
+      mounted = Some mounted;
+      tuner = tuner;
+      picker = picker;
+    }) stop)) }
+    ensures ends { IfOk result (λ next. IfNone next (cursor_after stop ≡ None)) }
+{
+    let Some(at) = behind(stop, rows.len()) else {
+        return Ok(None);
     };
     let Some(base) = &session.image else {
         unreachable!()
     };
     let event = session.account.events();
     let left = &rows[at.row..];
-    let core = open_next(alloc, mounted, base, geometry, tuner, picker, left, event)?;
-    Ok(Step {
-        session,
-        next: Some(Open { core, at }),
-    })
+    match open_next(alloc, mounted, base, geometry, tuner, picker, left, event) {
+        Ok(core) => Ok(Some(Open { core, at })),
+        Err(NoMemory) => Err(NoMemory),
+    }
 }
 
 // Runs the open session to its end, and opens the one behind it.
@@ -134,18 +167,38 @@ pub fn run<T: Tune + Drop, E: Pick + Drop>(
         (setup_with geometry (planned_of plan) tuner.floor) rows.now sessions.items) }
     ensures few { IfOk result (λ sessions. vec_len sessions ≤ 17) }
 {
-    let mut sessions = Vec::new(alloc);
     let core = open_first(alloc, geometry, plan, tuner, picker, rows)?;
-    let mut running = Open {
-        core,
-        at: Cursor { row: 0, made: 0 },
-    };
+    let at = Cursor { row: 0, made: 0 };
+    let mut sessions = Vec::new(alloc);
+    match run_all(alloc, Open { core, at }, rows, &geometry, &mut sessions) {
+        Ok(()) => Ok(sessions),
+        Err(NoMemory) => Err(NoMemory),
+    }
+}
+
+// Runs the first session and those behind it, while one is open.
+fn run_all<T: Tune + Drop, E: Pick + Drop>(
+    alloc: Global,
+    first: Open<T, E>,
+    rows: &[Row],
+    geometry: &Geometry,
+    sessions: &mut Vec<Session>,
+) -> Result<(), NoMemory>
+    requires geometry { geometry.now ≡ first.core.geometry }
+    requires rows { AreWithin (length (setup_in first.core).plan.cuts) rows.now }
+    requires none { sessions.old.items ≡ [] }
+    requires under_way { IsUnderWay (setup_in first.core) rows.now [] first }
+    ensures sessions { OnOk result (AreSessionsOf (setup_in first.core) rows.now
+        sessions.new.items) }
+    ensures few { OnOk result (vec_len sessions.new ≤ 17) }
+{
+    let mut running = first;
     for _ in 0..MOST_SESSIONS {
-        let Step { session, next } = next_session(alloc, running, rows, &geometry)?;
+        let Step { session, next } = next_session(alloc, running, rows, geometry)?;
         sessions.push(session)?;
         match next {
             Some(later) => running = later,
-            None => return Ok(sessions),
+            None => return Ok(()),
         }
     }
     unreachable!()

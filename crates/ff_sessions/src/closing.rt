@@ -1,13 +1,15 @@
 // Keeps what a session left, and remounts it.
-ghost use Rattle.std.specs.Prelude.{◌≡◌, ◌≤◌, ◌^◌, IfOk};
+ghost use Rattle.std.specs.Prelude.{◌≡◌, ◌≤◌, ◌^◌, IfErr, IfOk};
 ghost use Rattle.ff_base.specs.Geometry.{IsWithinLimits};
 ghost use Rattle.ff_flash.specs.SimFlash.{IsSimFlashSound};
 ghost use Rattle.ff_mount.specs.Sound.{AreSound};
 ghost use Rattle.ff_sessions.specs.Closing.{IsClosedSession};
+ghost use Rattle.ff_sessions.specs.Remounts.{HasRemounted, IsStoppedRemount};
 
 use crate::remounts::{MountedImage, remount};
 use crate::session::Session;
 use ff_base::{Geometry, NoMemory};
+use ff_cache::Nv;
 use ff_core::Lost;
 use ff_evict::{Pick, Picker};
 use ff_flash::SimFlash;
@@ -37,14 +39,35 @@ pub fn close<T: Tune + Drop, E: Pick + Drop>(
     requires life { lost.flash.operations ≤ 2 ^ 61 }
     ensures { IfOk result (IsClosedSession geometry.now lost) }
 {
-    let nv = lost.nv.copy(alloc)?;
-    let flash = lost.flash.copy(alloc)?;
-    flash_known(&flash);
-    match remount(alloc, nv, flash, geometry) {
+    match remount_copies(alloc, &lost.nv, &lost.flash, geometry) {
         Ok(MountedImage { mounted, image }) => Ok(kept(lost, Some(mounted), Some(image), None)),
         Err(MountStop::NoMemory) => Err(NoMemory),
         Err(stop) => Ok(kept(lost, None, None, Some(stop))),
     }
+}
+
+// Mounts copies of what a session left.
+fn remount_copies(
+    alloc: Global,
+    nv: &Nv,
+    flash: &SimFlash,
+    geometry: &Geometry,
+) -> Result<MountedImage<SimFlash>, MountStop>
+    requires geometry { IsWithinLimits geometry.now }
+    requires sound { AreSound geometry.now nv.now flash.now }
+    requires life { flash.now.operations ≤ 2 ^ 61 }
+    ensures ok { IfOk result (λ r. HasRemounted geometry.now nv.now flash.now r.mounted.store
+        r.mounted.cache r.mounted.marks r.image) }
+    ensures err { IfErr result (IsStoppedRemount geometry.now nv.now flash.now) }
+{
+    let Ok(nv) = nv.copy(alloc) else {
+        return Err(MountStop::NoMemory);
+    };
+    let Ok(flash) = flash.copy(alloc) else {
+        return Err(MountStop::NoMemory);
+    };
+    flash_known(&flash);
+    remount(alloc, nv, flash, geometry)
 }
 
 fn kept<T: Tune, E: Pick>(
