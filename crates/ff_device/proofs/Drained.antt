@@ -1,5 +1,5 @@
 -- Draining some posts, then some more, then all.
-use Rattle.std.proofs.Common.{◌≡◌, ◌≤◌, ℕ, ◌+◌, ◌==◌, ◌||◌, List, [], ◌∷◌, ◌++◌, length, take, drop, refl, sym, ap, ◌∙◌, arith}
+use Rattle.std.proofs.Common.{◌≡◌, ◌≤◌, ◌<◌, true, false, ℕ, ◌+◌, ◌==◌, ◌||◌, List, [], ◌∷◌, ◌++◌, length, take, drop, refl, sym, ap, ◌∙◌, arith}
 use Rattle.std.proofs.Math.Seq.{take-add}
 use Rattle.std.proofs.Math.ListN.{drop_of_length-le}
 use Rattle.std.proofs.lemmas.List.{drop-drop, length-take, take-append-drop, take_all}
@@ -9,6 +9,7 @@ use Rattle.ff_lines.specs.PageSets.{with_page, SameSet}
 use Rattle.ff_lines.specs.Posts.{laid}
 use Rattle.ff_lines.specs.declared.post.Post.{Post}
 use Rattle.ff_lines.proofs.DeviceLines.{laid-append}
+use Rattle.ff_window.specs.Window.{WindowView}
 use Rattle.ff_device.specs.Draining.{DrainsFirst, SameFrames}
 
 pub residence_same : (d : DeviceState) → SameResidence d d
@@ -45,6 +46,16 @@ drains_none d = record {
 }
 
 -- nothing waits
+-- no post was taken out
+pub none_waiting : (posts : List Post) → (0 < length posts → false ≡ true) → posts ≡ []
+none_waiting [] none = refl
+none_waiting (post ∷ later) none = let both : false ≡ true = none (omega arith) in absurd (cc)
+
+pub same_window : (old new : WindowView) → old.posts ≡ new.posts → new.room ≡ old.room → new ≡ old
+same_window old new posts room =
+    ap (λ (p : List Post). record { posts = p; room = new.room }) (sym posts)
+    ∙ ap (λ (n : ℕ). record { posts = old.posts; room = n }) room
+
 pub drains_empty : (d : DeviceState) → d.posts ≡ [] → DrainsFirst 1 d d
 drains_empty d none = record {
   posts = rw none refl;

@@ -49,9 +49,12 @@ gone_unposted page slot old new f p is =
     let parts = and_parts (not (gone_of slot old).pinned) (not (page_waits old.window.posts (gone_of slot old).page)) f.goes in
     goes_unposted old.window.posts (gone_of slot old).page p parts.1 is
 
+pub goes_unpinned : (posts : List Post) (slot : CacheSlot) → may_go posts slot ≡ true → slot.pinned ≡ false
+goes_unpinned posts slot goes = not-true slot.pinned (and_parts (not slot.pinned) (not (page_waits posts slot.page)) goes).0
+
 gone_unpinned : (page slot : ℕ) (old new : Parts) → Fetching page slot old new → (gone_of slot old).pinned ≡ false
 gone_unpinned page slot old new f =
-    not-true (gone_of slot old).pinned (and_parts (not (gone_of slot old).pinned) (not (page_waits old.window.posts (gone_of slot old).page)) f.goes).0
+    goes_unpinned old.window.posts (gone_of slot old) f.goes
 
 stored_same : (page slot : ℕ) (old new : Parts) → Fetching page slot old new → (p : ℕ) → stored_bytes new.store p ≡ stored_bytes old.store p
 stored_same page slot old new f p = rw f.fetched.pages refl

@@ -1,9 +1,10 @@
 -- The oldest post left the window and was laid over its page's slot.
 use Rattle.std.proofs.Common.{◌≡◌, ◌≢◌, inl, inr, ℕ, ◌+◌, ◌==◌, ◌||◌, Bool, true, false, List, ◌∷◌, length, refl, sym, ap, ◌∙◌, Some, get_or-set_same, get_or-set_other}
+use Rattle.std.specs.Prelude.{All, IsSome}
 use Rattle.std.proofs.lemmas.Bool.{cases_eq, eq-eqb, ne_eqb, or_left, or_right}
 use Rattle.std.proofs.lemmas.List.Elements.{All-head, All-tail}
 use Rattle.ff_cache.specs.Cache.{CacheView, IsCacheSound}
-use Rattle.ff_cache.specs.Slots.{empty_slot, cache_slot_at}
+use Rattle.ff_cache.specs.Slots.{empty_slot, held, cache_slot_at}
 use Rattle.ff_cache.specs.declared.slot.CacheSlot.{CacheSlot}
 use Rattle.ff_lines.specs.Posts.{laid_on, waits_in, IsPost}
 use Rattle.ff_lines.specs.declared.post.Post.{Post}
@@ -51,6 +52,14 @@ laying_pinned post old new l p =
 waits_own : (post : Post) (later : List Post) (p : ℕ) → p ≡ post.page.0 → waits_in (post ∷ later) p ≡ true
 waits_own post later p same =
     or_left (post.page.0 == p) (waits_in later p) (eq-eqb post.page.0 p (sym same))
+
+-- the page of the oldest post is cached
+pub oldest_held : (post : Post) (later : List Post) (old : Parts) → IsDeviceSound old → old.window.posts ≡ post ∷ later
+    → IsSome (held old.cache.slots post.page.0)
+oldest_held post later old sound is = sound.waiting post.page.0 (rw is (waits_own post later post.page.0 refl))
+
+pub oldest_post : (post : Post) (later posts : List Post) → All IsPost posts → posts ≡ post ∷ later → IsPost post
+oldest_post post later posts all is = All-head IsPost post later (rw is at all)
 
 waits_other : (post : Post) (later : List Post) (p : ℕ) → p ≢ post.page.0 → waits_in (post ∷ later) p ≡ waits_in later p
 waits_other post later p apart =

@@ -31,6 +31,10 @@ no_flush cells (Some p) is = absurd (cc)
 pub none_waits : (s : PageStoreView) → (seen_of s).pending ≡ None → s.waits ≡ None
 none_waits s is = no_flush s.world.flash.cells s.waits is
 
+pub none_sealed : (waits : Option Pending) → is_some waits ≡ false → waits ≡ None
+none_sealed None is = refl
+none_sealed (Some p) is = absurd (cc)
+
 some_flush : (cells : List Cell) (waits : Option Pending) → is_some (flush_at cells waits) ≡ is_some waits
 some_flush cells None = refl
 some_flush cells (Some p) = refl

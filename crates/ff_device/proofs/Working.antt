@@ -12,7 +12,7 @@ use Rattle.ff_lines.specs.Works.{KeepsLines, Works}
 use Rattle.ff_lines.specs.declared.device.Work.{Work}
 use Rattle.ff_lines.specs.declared.device.Work.TheVariants.{Ready, Stepped, Pinned, Failed, Off}
 use Rattle.ff_lines.specs.declared.post.Post.{Post}
-use Rattle.ff_device.specs.Device.{lines_of}
+use Rattle.ff_device.specs.Device.{lines_of, DeviceView}
 use Rattle.ff_device.specs.Draining.{SameFrames}
 use Rattle.ff_device.specs.Parts.{is_resident, IsDeviceSound, Parts}
 use Rattle.ff_device.specs.Steps.{chosen_way, may_go, page_waits, soon_clean, steps_to}
@@ -358,6 +358,11 @@ chosen_goes page slot old mid sound cache raised =
 pub empty_goes : (page slot : ℕ) (old : Parts) → IsCacheSound old.cache → old.store.pending ≡ None → IsEmptyWay old.cache page slot
     → ((cache_slot_at old.cache.slots slot).dirty ≡ false) × (may_go old.window.posts (cache_slot_at old.cache.slots slot) ≡ true)
 empty_goes page slot old cache idle e = let p = empty_place page slot old cache idle e in (p.clean, p.goes)
+
+-- a device whose values may have been raised, and whose cache is as before
+pub unraised : (old mid : DeviceView) → mid ≡ record old { cache = record old.cache { values = mid.cache.values } }
+    → mid.cache ≡ old.cache → mid ≡ old
+unraised old mid same kept = same ∙ ap (λ (cache : CacheView). record old { cache = record old.cache { values = cache.values } }) kept
 
 -- no flush waits
 pub pending_none : (waits : Option PendingFlush) → is_some waits ≡ false → waits ≡ None

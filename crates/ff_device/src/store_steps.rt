@@ -42,7 +42,6 @@ pub fn fetch<F: Flash>(
 }
 
 // Makes one step of the flush of a page, while none is to be sealed.
-#[tactic(auto, using(crate::proofs::SeenRoom::has_room, crate::proofs::SeenSteps::none_waits, crate::proofs::SeenSteps::flushed, crate::proofs::SeenPages::pages_same, crate::proofs::StoreCalls::as_many_pages))]
 pub fn flush_step<F: Flash>(
     store: &mut PageStore<F>,
     page: PageNo,

@@ -63,7 +63,6 @@ impl<F: Flash> Device<F> {
     }
 
     // A step where the page's set is full.
-    #[tactic(auto, using(crate::proofs::Working::raised_step, crate::proofs::Working::chosen_place, crate::proofs::Working::chosen_goes))]
     fn replace(&mut self, page: PageNo) -> Work
         requires page { page.0 < length (seen_of self.old.store).pages }
         requires used { HasCountLeft (seen_of self.old.store).used }
