@@ -45,17 +45,18 @@ drains_none d = record {
   residence = residence_same d;
 }
 
--- nothing waits
 -- no post was taken out
 pub none_waiting : (posts : List Post) → (0 < length posts → false ≡ true) → posts ≡ []
 none_waiting [] none = refl
-none_waiting (post ∷ later) none = let both : false ≡ true = none (omega arith) in absurd (cc)
+none_waiting (post ∷ later) none = let both : false ≡ true = none (omega arith) in absurd cc
 
+-- a window is its posts and its room
 pub same_window : (old new : WindowView) → old.posts ≡ new.posts → new.room ≡ old.room → new ≡ old
 same_window old new posts room =
     ap (λ (p : List Post). record { posts = p; room = new.room }) (sym posts)
     ∙ ap (λ (n : ℕ). record { posts = old.posts; room = n }) room
 
+-- nothing waits
 pub drains_empty : (d : DeviceState) → d.posts ≡ [] → DrainsFirst 1 d d
 drains_empty d none = record {
   posts = rw none refl;

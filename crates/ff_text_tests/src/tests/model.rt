@@ -1,8 +1,9 @@
 // Calls, replies, histories and images, each public call once.
 ghost use Rattle.std.specs.Prelude.{◌≤◌, length};
 
-use ff_base::{Caller, Geometry, LAST_EVENT, PageBuf, PageNo};
+use ff_base::{Caller, Geometry, LAST_EVENT, NoMemory, PageBuf, PageNo};
 use ff_model::{Entry, History, Image, Op, Piece, Reply, first_illegal, flat_byte};
+use std::alloc::Global;
 use std::test::Fail;
 
 fn entry(op: Op, reply: Reply) -> Entry {
@@ -97,24 +98,47 @@ fn a_call_is_in_range_within_a_line_and_the_pages(rt: HostRuntime) {
     assert!(rt; !store(63, &[]).is_in_range(16));
 }
 
-#[test]
-fn an_image_holds_pages_and_marks(rt: HostRuntime) -> Result<(), Fail> {
-    let mut page = PageBuf::new(rt.alloc())?;
+// An image of two pages, of which the second is held.
+fn two_pages(alloc: Global) -> Result<Image, NoMemory> {
+    let mut page = PageBuf::new(alloc)?;
     page.set_line(1, &[7; 64]);
-    let mut image = Image::new(rt.alloc(), 2)?;
-    assert_eq!(rt; (image.holds(PageNo(1)), image.byte(8191)), (false, 0));
+    let mut image = Image::new(alloc, 2)?;
     image.put(PageNo(1), &page)?;
     image.set_marks(PageNo(0), 5);
+    Ok(image)
+}
+
+// Whether an image holds a page, its marked lines, and its second line.
+type Told = (bool, u64, Option<[u8; 64]>);
+
+fn told(image: &Image, page: u32) -> Option<Told> {
+    if page >= image.pages() {
+        return None;
+    }
+    let page = PageNo(page);
+    let line = match image.page(page) {
+        Some(bytes) => Some(bytes.line(1)),
+        None => None,
+    };
+    Some((image.holds(page), image.marks(page), line))
+}
+
+#[test]
+fn a_new_image_holds_nothing(rt: HostRuntime) -> Result<(), Fail> {
+    let image = Image::new(rt.alloc(), 2)?;
+    assert_eq!(rt; told(&image, 1), Some((false, 0, None)));
+    assert_eq!(rt; image.byte(8191), 0);
+    Ok(())
+}
+
+#[test]
+fn an_image_holds_pages_and_marks(rt: HostRuntime) -> Result<(), Fail> {
+    let image = two_pages(rt.alloc())?;
     let copy = image.copy(rt.alloc())?;
     assert_eq!(rt; copy.pages(), 2);
-    assert!(rt; copy.holds(PageNo(1)) && !copy.holds(PageNo(0)));
-    assert!(rt; copy.page(PageNo(0)).is_none());
-    assert!(rt;
-        copy.page(PageNo(1))
-            .is_some_and(|page| page.line(1) == [7; 64])
-    );
+    assert_eq!(rt; told(&copy, 0), Some((false, 5, None)));
+    assert_eq!(rt; told(&copy, 1), Some((true, 0, Some([7; 64]))));
     assert_eq!(rt; copy.byte(4096 + 64), 7);
-    assert_eq!(rt; (copy.marks(PageNo(0)), copy.marks(PageNo(1))), (5, 0));
     Ok(())
 }
 
