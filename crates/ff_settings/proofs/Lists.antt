@@ -1,9 +1,10 @@
 -- The values of a document as the lists that the code goes over.
-use Rattle.std.proofs.Common.{◌≡◌, ℕ, Bool, true, false, List, [], ◌∷◌, map, String, Global, string_bytes, refl, sym, ap, ◌∙◌, arith, ◌<◌, ◌^◌}
+use Rattle.std.proofs.Common.{◌≡◌, ℕ, Bool, true, false, List, [], ◌∷◌, ◌++◌, map, take, length, get_or, String, Global, string_bytes, refl, sym, ap, ap₂, ◌∙◌, arith, ◌<◌, ◌+◌, ◌^◌}
 use Rattle.std.specs.Prelude.{nat_lt, ◌&&◌}
 use Rattle.std.specs.List.{list_all}
 use Rattle.std.proofs.lemmas.Bool.{and_parts}
 use Rattle.std.proofs.lemmas.Bool.Decides.{nat_tests}
+use Rattle.std.proofs.lemmas.List.{map_more}
 use Rattle.std.proofs.lemmas.List.Folds.{list_all-map}
 use Rattle.std.specs.Map.{keys_of}
 use Rattle.toml.specs.Data.{Data}
@@ -28,6 +29,13 @@ all-viewed test values list r same e = e ∙ sym (list_all-map test view values)
 pub map-viewed : {A : Type 0} (f : Data → A) (values : List Value) (list : List Data)
     → map view values ≡ list → map (λ value. f (view value)) values ≡ map f list
 map-viewed f values list same = map-each f values ∙ ap (map f) same
+
+-- one more item of a list that is made of another's
+pub map-grows : {A B : Type 0} (f : A → B) (xs : List A) (at : ℕ) (x : A) (old new : List B) (y : B)
+    → old ≡ map f (take at xs) → new ≡ old ++ y ∷ [] → x ≡ get_or xs at x → y ≡ f x → at < length xs
+    → new ≡ map f (take (at + 1) xs)
+map-grows f xs at x old new y before grown here is within =
+    grown ∙ ap₂ (λ ys z. ys ++ z ∷ []) before (is ∙ ap f here) ∙ sym (map_more f xs at x within)
 
 -- the values of an array, seen as data
 pub items-viewed : (values : List Value) → map view values ≡ list_of (items_view values)
