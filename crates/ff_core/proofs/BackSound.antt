@@ -145,5 +145,3 @@ pub back-sound : {T E : Type 0} (score : E → Bool → ℕ → ℕ) (kind : Kin
     → IsBack (flash_under old.hierarchy).on score kind old back new → IsCoreSound new
 back-sound score kind old back new sound memory device is =
     back-sound-by (flash_under old.hierarchy).on score kind old back new sound memory device refl is
-
-pub ruleset back_keeps = back-sound

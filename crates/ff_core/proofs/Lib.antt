@@ -1,9 +1,11 @@
 pub mod ActionsTold
 pub mod AskedPages
 pub mod Attempts
+pub mod BackEnds
 pub mod BackSound
 pub mod Beginning
 pub mod CachedOver
+pub mod Choosing
 pub mod Counting
 pub mod CutPower
 pub mod DriveEvents

@@ -256,5 +256,3 @@ pub turn_cut : {T E : Type 0} (answers : T → ℕ → ℕ → ℕ → ℕ → T
     → GoesOffByCut (flash_under old.hierarchy) (flash_under new.hierarchy)
 turn_cut answers old caller number op turn new is =
     turn_cut_by (flash_under old.hierarchy).on answers old caller number op turn new refl is
-
-pub ruleset back_leaves = (back_event, back_cut)

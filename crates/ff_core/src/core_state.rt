@@ -104,7 +104,6 @@ impl<F: Flash, T: Tune, E: Pick> Core<F, T, E> {
 
     /// Moves hot pages into frames, a step at a time. A background turn makes the one choice of its kind, and answers
     /// `Idle` exactly where there is none.
-    #[tactic(auto, using(crate::proofs::BackSound::back_keeps, crate::proofs::Powered::back_leaves))]
     pub fn promote_turn(&mut self) -> Back
         requires spare { 0 < spare_turns self.old }
         ensures back { IsBack (flash_under self.old.hierarchy).on E.score Promote self.old result
@@ -118,7 +117,6 @@ impl<F: Flash, T: Tune, E: Pick> Core<F, T, E> {
     }
 
     /// Moves pages back to the device, a step at a time.
-    #[tactic(auto, using(crate::proofs::BackSound::back_keeps, crate::proofs::Powered::back_leaves))]
     pub fn evict_turn(&mut self) -> Back
         requires spare { 0 < spare_turns self.old }
         ensures back { IsBack (flash_under self.old.hierarchy).on E.score Evict self.old result
@@ -132,7 +130,6 @@ impl<F: Flash, T: Tune, E: Pick> Core<F, T, E> {
     }
 
     /// Seals a flush that waits, or makes a step of the collector.
-    #[tactic(auto, using(crate::proofs::BackSound::back_keeps, crate::proofs::Powered::back_leaves))]
     pub fn collect_turn(&mut self) -> Back
         requires spare { 0 < spare_turns self.old }
         ensures back { IsBack (flash_under self.old.hierarchy).on E.score Collect self.old result
@@ -146,7 +143,6 @@ impl<F: Flash, T: Tune, E: Pick> Core<F, T, E> {
     }
 
     /// Drains the oldest posted store.
-    #[tactic(auto, using(crate::proofs::BackSound::back_keeps, crate::proofs::Powered::back_leaves))]
     pub fn drain_turn(&mut self) -> Back
         requires spare { 0 < spare_turns self.old }
         ensures back { IsBack (flash_under self.old.hierarchy).on E.score Drain self.old result

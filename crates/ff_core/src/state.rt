@@ -60,6 +60,7 @@ fn next_number(event: u64) -> u64
 impl<F: Flash, T: Tune, E: Pick> State<F, T, E> {
     ghost use Rattle.ff_core.specs.Core.{counts_of, spare_calls, spare_turns};
     ghost use Rattle.ff_core.specs.CoreSound.{IsCoreSound};
+    ghost use Rattle.ff_core.specs.Losing.{core_off};
 
     pub(crate) fn spare_calls(&self) -> u32
         ensures { result ≡ spare_calls self.now }
@@ -71,6 +72,13 @@ impl<F: Flash, T: Tune, E: Pick> State<F, T, E> {
         ensures { result ≡ spare_turns self.now }
     {
         self.log.spare()
+    }
+
+    // The power goes off. Nothing else changes.
+    pub(crate) fn power_off(&mut self)
+        ensures { self.new ≡ core_off self.old }
+    {
+        self.hierarchy.power_off();
     }
 
     // What the session did.

@@ -36,7 +36,6 @@ pub(super) fn most_events(geometry: &Geometry, op: &Op) -> u32
 
 impl<F: Flash, T: Tune, E: Pick> Core<F, T, E> {
     // One event of a call.
-    #[tactic(auto, using(crate::proofs::DriveEvents::turn_event, crate::proofs::Powered::turn_cut))]
     pub(super) fn event(&mut self, caller: Caller, number: u32, op: &Op) -> Turn
         requires spare { 0 < spare_calls self.old }
         ensures event { IsEvent self.old caller number op.now result self.new }

@@ -34,12 +34,11 @@ pub struct Lost<F: Flash, T: Tune, E: Pick> {
 
 impl<F: Flash, T: Tune, E: Pick> Core<F, T, E> {
     /// Turns the power off between two events. Nothing else changes.
-    #[tactic(auto, using(crate::proofs::CutPower::core_off_sound))]
     pub fn cut_power(&mut self)
         ensures { self.new ≡ core_off self.old }
     {
         self.parts_known();
-        self.state.hierarchy.device.power_off();
+        self.state.power_off();
     }
 
     /// Ends the session by a loss of power, at which the oldest `arrive` of the waiting posts arrive and the others are

@@ -3,7 +3,7 @@ ghost use Rattle.std.specs.Prelude.{◌≡◌, drop};
 ghost use Rattle.ff_kept.specs.Waiting.{kept_length};
 ghost use Rattle.ff_mount.specs.Held.{nv_of};
 ghost use Rattle.ff_core.specs.Hierarchy.{flash_under};
-ghost use Rattle.ff_core.specs.Losing.{IsPoweredDown};
+ghost use Rattle.ff_core.specs.Losing.{IsPoweredDown, device_off};
 
 use crate::hierarchy::Hierarchy;
 use ff_cache::Nv;
@@ -42,6 +42,13 @@ impl<F: Flash, T: Tune, E: Pick> Hierarchy<F, T, E> {
         ensures rest { self.new ≡ record self.old { device = self.new.device } }
     {
         power_down(&mut self.device, arrive, entries)
+    }
+
+    // The power goes off. Nothing else changes.
+    pub(crate) fn power_off(&mut self)
+        ensures { self.new ≡ record self.old { device = device_off self.old.device } }
+    {
+        self.device.power_off();
     }
 
     // What the battery keeps, the flash, and what the policy was made with.

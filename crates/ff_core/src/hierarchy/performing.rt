@@ -119,7 +119,6 @@ impl<F: Flash, T: Tune, E: Pick> Hierarchy<F, T, E> {
         Progress::Did(What::Started)
     }
 
-    #[tactic(auto, using(crate::proofs::Evicting::evicted))]
     fn evict(&mut self, frame: u32) -> Progress
         requires given { IsGiven self.old }
         requires may { IsEvictable self.old frame }
