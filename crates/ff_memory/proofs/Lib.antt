@@ -8,6 +8,7 @@ pub mod FrameStores
 pub mod FrameTwice
 pub mod Landings
 pub mod Lifts
+pub mod Marks
 pub mod Moves
 pub mod PostStores
 pub mod Resting

@@ -33,7 +33,6 @@ fn distant_values(alloc: Global, sets: u32, ways: u32) -> Result<Vec<Ways>, NoMe
 
 impl Cache {
     /// A cache of empty slots, all expected last.
-    #[tactic(auto, using(crate::proofs::Fresh::fresh_sound, crate::proofs::Fresh::sizes_of))]
     pub fn new(alloc: Global, geometry: &Geometry) -> Result<Cache, NoMemory>
         requires { IsWithinLimits geometry.now }
         ensures { IfOk result (λ cache. cache ≡ fresh_cache geometry.now.sets geometry.now.ways) }

@@ -62,7 +62,7 @@ fn mounted_ways(alloc: Global, slots: &[CacheSlot], from: u32, ways: u32) -> Res
     Ok(made)
 }
 
-#[tactic(auto, using(crate::proofs::Sets::set_fits, crate::proofs::Mounted::mounted_more))]
+#[tactic(auto, using(crate::proofs::Sets::set_fits))]
 fn mounted_values(
     alloc: Global,
     slots: &[CacheSlot],
