@@ -6,11 +6,11 @@ use super::plans::{Fault, SMALL, fill};
 use super::stores::StoreRig;
 use ff_base::{Geometry, NoMemory, PageBuf, PageNo};
 use ff_cache::Cache;
-use ff_flash::Flash;
+use ff_flash::{Flash, SimFlash};
 use ff_model::Image;
-use ff_mount::MountStop;
+use ff_mount::{MountStop, Mounted};
 use ff_store::FlushStep;
-use lost::Lost;
+use lost::{Came, Lost};
 use parts::{Parts, cache_page};
 use std::alloc::Global;
 use std::process::Abort;
@@ -140,47 +140,74 @@ fn an_image_has_what_is_held(rt: HostRuntime) -> Result<(), Fail> {
     Ok(())
 }
 
+// An image that stops in the operation after so many. It can be made again where that failed.
+fn check_fail(rt: &impl Abort, alloc: Global, made: u32) -> Result<(), NoMemory> {
+    let mut parts = parts_of(rt, alloc, Fault::Fail(made))?;
+    assert_eq!(rt;
+        stop_of(&mut parts, alloc),
+        Some(MountStop::Fault),
+        "after {made}"
+    );
+    assert_eq!(rt; parts.made(), (u64::from(made) + 1, true));
+    check_image(rt, &mut parts, alloc);
+    Ok(())
+}
+
+fn check_cut(rt: &impl Abort, alloc: Global, made: u32) -> Result<(), NoMemory> {
+    let mut parts = parts_of(rt, alloc, Fault::Cut(made, 1))?;
+    assert_eq!(rt;
+        stop_of(&mut parts, alloc),
+        Some(MountStop::Off),
+        "after {made}"
+    );
+    assert_eq!(rt; parts.made(), (u64::from(made) + 1, false));
+    Ok(())
+}
+
 #[test]
 fn a_read_that_fails_or_is_cut_stops_an_image(rt: HostRuntime) -> Result<(), Fail> {
     for made in [10, 11] {
-        let mut failing = parts_of(&rt, rt.alloc(), Fault::Fail(made))?;
-        assert_eq!(rt;
-            stop_of(&mut failing, rt.alloc()),
-            Some(MountStop::Fault),
-            "after {made}"
-        );
-        assert_eq!(rt; failing.made(), (u64::from(made) + 1, true));
-        check_image(&rt, &mut failing, rt.alloc());
-        let mut cut = parts_of(&rt, rt.alloc(), Fault::Cut(made, 1))?;
-        assert_eq!(rt;
-            stop_of(&mut cut, rt.alloc()),
-            Some(MountStop::Off),
-            "after {made}"
-        );
-        assert_eq!(rt; cut.made(), (u64::from(made) + 1, false));
+        check_fail(&rt, rt.alloc(), made)?;
+        check_cut(&rt, rt.alloc(), made)?;
     }
     Ok(())
 }
 
+// What was mounted at first, or where that was refused, at the second time.
+fn mounted_again(
+    alloc: Global,
+    mounted: Option<Mounted<SimFlash>>,
+    back: Option<Lost>,
+) -> Option<Mounted<SimFlash>> {
+    match back {
+        Some(lost) => lost.mount(alloc)?.1,
+        None => mounted,
+    }
+}
+
+// The operations that were made, and whether page 3 is mapped.
+fn mapped_by(mounted: &Mounted<SimFlash>) -> (u64, bool) {
+    let store = &mounted.store;
+    (store.flash().operation_count(), store.is_mapped(PageNo(3)))
+}
+
+// What the first mount came to, and what the last one made.
+fn mounts_of(alloc: Global, fault: Fault) -> Option<(Came, (u64, bool))> {
+    let lost = Lost::new(alloc, &FIVE_BLOCKS, 3, fault)?;
+    let (came, mounted, back) = lost.mount(alloc)?;
+    let mounted = mounted_again(alloc, mounted, back)?;
+    Some((came, mapped_by(&mounted)))
+}
+
 // Ten places are probed. A probe that fails or is cut hands back what can be mounted again.
 #[test]
-fn a_mount_that_is_refused_can_be_made_again(rt: HostRuntime) -> Result<(), Fail> {
+fn a_mount_that_is_refused_can_be_made_again(rt: HostRuntime) {
     let table = [
         (Fault::Nothing, (10, true, None), 10),
         (Fault::Fail(3), (4, true, Some(MountStop::Fault)), 14),
         (Fault::Cut(6, 1), (7, false, Some(MountStop::Off)), 17),
     ];
     for (fault, wanted, last) in table {
-        let lost = Lost::new(rt.alloc(), &FIVE_BLOCKS, 3, fault).ok_or("want of memory")?;
-        let (came, mounted, back) = lost.mount(rt.alloc()).ok_or("a mount")?;
-        assert_eq!(rt; came, wanted);
-        let mounted = match back {
-            Some(lost) => lost.mount(rt.alloc()).ok_or("a second mount")?.1,
-            None => mounted,
-        };
-        let mounted = mounted.ok_or("mounted parts")?;
-        assert_eq!(rt; mounted.store.flash().operation_count(), last);
-        assert_eq!(rt; mounted.store.is_mapped(PageNo(3)), false);
+        assert_eq!(rt; mounts_of(rt.alloc(), fault), Some((wanted, (last, false))));
     }
-    Ok(())
 }

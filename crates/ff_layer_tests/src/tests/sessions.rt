@@ -1,6 +1,8 @@
 // A session over mounted parts that begins at the last event number, and a run of two sessions.
-ghost use Rattle.std.specs.Prelude.{◌≤◌, ◌^◌, IfSome};
+ghost use Rattle.std.specs.Prelude.{◌≡◌, ◌^◌, IfSome};
 ghost use Rattle.ff_base.specs.Geometry.{IsWithinLimits};
+ghost use Rattle.ff_core.specs.Resume.{CanResume};
+ghost use Rattle.ff_mount.specs.Held.{held_content, nv_of};
 ghost use Rattle.ff_mount.specs.Sound.{AreSound};
 ghost use Rattle.ff_sessions.specs.Remounts.{HasRemounted};
 ghost use Rattle.ff_trace.specs.Within.{AreWithin};
@@ -48,10 +50,12 @@ struct Remounted {
 fn remount(alloc: Global, nv: Nv, flash: SimFlash, geometry: &Geometry) -> Option<Remounted>
     requires geometry { IsWithinLimits geometry.now }
     requires sound { AreSound geometry.now nv flash }
-    requires life { flash.operations ≤ 2 ^ 61 }
     ensures { IfSome result (λ r. HasRemounted geometry.now nv flash r.mounted.store
         r.mounted.cache r.mounted.marks r.image) }
 {
+    if flash.operation_count() > 1 << 61 {
+        return None;
+    }
     match mount(alloc, nv, flash, geometry) {
         Ok(mut mounted) => match image_of(alloc, &mut mounted, geometry) {
             Ok(image) => Some(Remounted { mounted, image }),
@@ -61,36 +65,68 @@ fn remount(alloc: Global, nv: Nv, flash: SimFlash, geometry: &Geometry) -> Optio
     }
 }
 
-// The session behind one that lost its power, from the last event number on.
-fn last(alloc: Global, core: TestCore) -> Result<TestCore, Fail> {
-    core.known();
-    let geometry = *core.geometry();
-    let lost = core.power(0);
-    if lost.flash.operation_count() > 1 << 61 {
-        Err("too many operations")?;
-    }
-    let Some(Remounted { mounted, image }) = remount(alloc, lost.nv, lost.flash, &geometry) else {
-        return Err("no mount")?;
-    };
-    let (tuner, picker) = (lost.tuner, lost.picker);
+// A session over mounted parts, from the last event number on.
+fn resumed(
+    alloc: Global,
+    parts: Remounted,
+    geometry: Geometry,
+    tuner: Tuner<ByHits>,
+    picker: Picker<ByDirty>,
+) -> Option<TestCore>
+    requires geometry { IsWithinLimits geometry }
+    requires parts { CanResume geometry parts.mounted.store parts.mounted.cache
+        parts.mounted.marks (2 ^ 62) }
+    requires image { parts.image ≡ held_content geometry.pages
+        (nv_of parts.mounted.cache parts.mounted.marks) parts.mounted.store.world.flash.cells }
+{
+    let Remounted { mounted, image } = parts;
     let room = Room { calls: 2, turns: 1 };
     match Core::resume(
         alloc, mounted, &image, geometry, tuner, picker, room, LAST_EVENT,
     ) {
-        Ok(core) => Ok(core),
-        Err(_) => Err("no memory")?,
+        Ok(core) => Some(core),
+        Err(_) => None,
     }
+}
+
+// The session behind one that lost its power, from the last event number on.
+fn last(alloc: Global, core: TestCore) -> Option<TestCore> {
+    core.known();
+    let geometry = *core.geometry();
+    let lost = core.power(0);
+    match remount(alloc, lost.nv, lost.flash, &geometry) {
+        Some(parts) => resumed(alloc, parts, geometry, lost.tuner, lost.picker),
+        None => None,
+    }
+}
+
+fn spare(core: &TestCore) -> (u32, u32) {
+    (core.spare_calls(), core.spare_turns())
+}
+
+fn turn(core: &mut TestCore, op: &Op) -> Option<Turn> {
+    if core.spare_calls() == 0 {
+        return None;
+    }
+    Some(core.turn(Caller(0), 0, op))
+}
+
+fn promote_turn(core: &mut TestCore) -> Option<Back> {
+    if core.spare_turns() == 0 {
+        return None;
+    }
+    Some(core.promote_turn())
 }
 
 #[test]
 fn nothing_is_done_at_the_last_event_number(rt: HostRuntime) -> Result<(), Fail> {
-    let alloc = rt.alloc();
-    let mut core = last(alloc, core_of(alloc, USUAL, Fault::Nothing)?)?;
-    assert_eq!(rt; (core.spare_calls(), core.spare_turns()), (2, 1));
+    let first = core_of(rt.alloc(), USUAL, Fault::Nothing)?;
+    let mut core = last(rt.alloc(), first).ok_or("a session behind it")?;
+    assert_eq!(rt; spare(&core), (2, 1));
     let load = Op::Load { at: 0, len: 8 };
-    assert_eq!(rt; core.turn(Caller(0), 0, &load), Turn::Served(Reply::Spent));
-    assert_eq!(rt; core.spare_turns(), 1);
-    assert_eq!(rt; core.promote_turn(), Back::Spent);
+    assert_eq!(rt; turn(&mut core, &load), Some(Turn::Served(Reply::Spent)));
+    assert_eq!(rt; spare(&core).1, 1);
+    assert_eq!(rt; promote_turn(&mut core), Some(Back::Spent));
     assert_eq!(rt; core.events(), LAST_EVENT);
     Ok(())
 }
