@@ -1,5 +1,5 @@
 // A session over mounted parts that begins at the last event number, and a run of two sessions.
-ghost use Rattle.std.specs.Prelude.{◌≡◌, ◌^◌, IfSome};
+ghost use Rattle.std.specs.Prelude.{◌≡◌, ◌≤◌, ◌^◌, IfSome};
 ghost use Rattle.ff_base.specs.Geometry.{IsWithinLimits};
 ghost use Rattle.ff_core.specs.Resume.{CanResume};
 ghost use Rattle.ff_mount.specs.Held.{held_content, nv_of};
@@ -50,12 +50,10 @@ struct Remounted {
 fn remount(alloc: Global, nv: Nv, flash: SimFlash, geometry: &Geometry) -> Option<Remounted>
     requires geometry { IsWithinLimits geometry.now }
     requires sound { AreSound geometry.now nv flash }
+    requires life { flash.operations ≤ 2 ^ 61 }
     ensures { IfSome result (λ r. HasRemounted geometry.now nv flash r.mounted.store
         r.mounted.cache r.mounted.marks r.image) }
 {
-    if flash.operation_count() > 1 << 61 {
-        return None;
-    }
     match mount(alloc, nv, flash, geometry) {
         Ok(mut mounted) => match image_of(alloc, &mut mounted, geometry) {
             Ok(image) => Some(Remounted { mounted, image }),
@@ -63,6 +61,19 @@ fn remount(alloc: Global, nv: Nv, flash: SimFlash, geometry: &Geometry) -> Optio
         },
         Err(_) => None,
     }
+}
+
+// The same, over a flash that has few operations.
+fn remount_young(alloc: Global, nv: Nv, flash: SimFlash, geometry: &Geometry) -> Option<Remounted>
+    requires geometry { IsWithinLimits geometry.now }
+    requires sound { AreSound geometry.now nv flash }
+    ensures { IfSome result (λ r. HasRemounted geometry.now nv flash r.mounted.store
+        r.mounted.cache r.mounted.marks r.image) }
+{
+    if flash.operation_count() > 1 << 61 {
+        return None;
+    }
+    remount(alloc, nv, flash, geometry)
 }
 
 // A session over mounted parts, from the last event number on.
@@ -94,7 +105,7 @@ fn last(alloc: Global, core: TestCore) -> Option<TestCore> {
     core.known();
     let geometry = *core.geometry();
     let lost = core.power(0);
-    match remount(alloc, lost.nv, lost.flash, &geometry) {
+    match remount_young(alloc, lost.nv, lost.flash, &geometry) {
         Some(parts) => resumed(alloc, parts, geometry, lost.tuner, lost.picker),
         None => None,
     }
