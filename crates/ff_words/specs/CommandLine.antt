@@ -36,6 +36,6 @@ flatflash =
     load_app.top
 
 -- a command is told so to `clap`, and none of its arguments is also its subcommands'
-pub record IsTold (command : Command) (app : App) : Type 0 where
+pub record IsToldAs (command : Command) (app : App) : Type 0 where
   pub told : app_of command ≡ app
   pub own : (out-Command command).has_globals ≡ false

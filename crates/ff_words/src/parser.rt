@@ -1,7 +1,7 @@
 // The program's command line, told to `clap`.
 ghost use Rattle.std.specs.Prelude.{◌≡◌, IfOk, codes};
 ghost use Rattle.clap.specs.Words.{App, app_of, new_app, with_subcommand};
-ghost use Rattle.ff_words.specs.CommandLine.{IsTold, flatflash, load_app, named};
+ghost use Rattle.ff_words.specs.CommandLine.{IsToldAs, flatflash, load_app, named};
 
 use clap::{Arg, ArgAction, Command};
 use std::alloc::{AllocError, Global};
@@ -17,7 +17,7 @@ pub(crate) fn parser<'a>(alloc: Global) -> Result<Command<'a>, AllocError>
 
 // The program's name.
 fn named<'a>(alloc: Global) -> Command<'a>
-    ensures { IsTold result named }
+    ensures { IsToldAs result named }
 {
     Command::new(alloc, "flatflash")
         .disable_help_flag(true)
@@ -27,7 +27,7 @@ fn named<'a>(alloc: Global) -> Command<'a>
 
 // The command `load`, with its number.
 fn load<'a>(alloc: Global) -> Result<Command<'a>, AllocError>
-    ensures { IfOk result (λ load. IsTold load load_app) }
+    ensures { IfOk result (λ load. IsToldAs load load_app) }
 {
     let number = Arg::new(alloc, "N")
         .required(true)
@@ -38,8 +38,8 @@ fn load<'a>(alloc: Global) -> Result<Command<'a>, AllocError>
 
 // A command with one more below it.
 fn with<'a>(above: Command<'a>, below: Command<'a>) -> Result<Command<'a>, AllocError>
-    ensures { (a b : App) → IsTold above.entry a → IsTold below.entry b
-        → IfOk result (λ all. IsTold all (with_subcommand a b.top)) }
+    ensures { (a b : App) → IsToldAs above.entry a → IsToldAs below.entry b
+        → IfOk result (λ all. IsToldAs all (with_subcommand a b.top)) }
 {
     above.subcommand(below)
 }
