@@ -23,7 +23,7 @@ pub type Case = (&'static str, u8, &'static str);
 const FIRST: &[u8] = b"---\ncaller,op,a,b\n0,store,10,aabb\n0,store,11,cc\n0,load,10,3\n";
 
 // The lines of the text of this input, each of which is one write.
-const FIRST_LINES: [&[u8]; 12] = [
+static FIRST_LINES: [&[u8]; 12] = [
     b"session 0\n",
     b"0 0 store 10 aabb done\n",
     b"0 1 store 11 cc done\n",
@@ -75,14 +75,48 @@ fn sessions_in(text: &str) -> usize {
         .count()
 }
 
+/// What a call came to: its status, how many sessions it ran, and what is written.
+#[derive(Drop)]
+struct Came {
+    status: u8,
+    sessions: usize,
+    sink: MemorySink,
+}
+
+impl Came {
+    fn told(&self) -> (u8, usize, &[u8]) {
+        (self.status, self.sessions, self.sink.written())
+    }
+}
+
+// What a call comes to in which this read and this write fail.
+fn call_with(
+    alloc: Global,
+    line: &str,
+    input: &[u8],
+    failing_read: u64,
+    failing_write: u64,
+) -> Result<Came, NoMemory> {
+    let mut sink = sink(alloc, failing_write)?;
+    let outcome = call(alloc, line, input, failing_read, &mut sink)?;
+    Ok(Came {
+        status: outcome.status,
+        sessions: outcome.sessions.len(),
+        sink,
+    })
+}
+
+// What a schedule of an input comes to.
+fn scheduled(alloc: Global, input: &[u8]) -> Result<Came, NoMemory> {
+    call_with(alloc, "flatflash schedule", input, 0, 0)
+}
+
 // Whether each input gives its status and text, and as many sessions as the text tells of.
 fn check_cases(rt: &impl Abort, alloc: Global, cases: &[Case]) -> Result<(), NoMemory> {
     for (at, (input, status, text)) in cases.iter().enumerate() {
-        let mut sink = sink(alloc, 0)?;
-        let outcome = call(alloc, "flatflash schedule", input.as_bytes(), 0, &mut sink)?;
-        assert_eq!(rt; outcome.status, *status, "case {at}");
-        assert_eq!(rt; sink.written(), text.as_bytes(), "case {at}");
-        assert_eq!(rt; outcome.sessions.len(), sessions_in(text), "case {at}");
+        let came = scheduled(alloc, input.as_bytes())?;
+        let wanted = (*status, sessions_in(text), text.as_bytes());
+        assert_eq!(rt; came.told(), wanted, "case {at}");
     }
     Ok(())
 }
@@ -128,20 +162,15 @@ fn other_words_are_refused(rt: HostRuntime) -> Result<(), Fail> {
         "flatflash schedule more",
         "schedule flatflash",
     ] {
-        let mut sink = sink(rt.alloc(), 0)?;
-        let outcome = call(rt.alloc(), line, FIRST, 0, &mut sink)?;
-        assert_eq!(rt; outcome.status, 1);
-        assert_eq!(rt; sink.written(), USAGE_TEXT);
-        assert!(rt; outcome.sessions.is_empty());
+        let came = call_with(rt.alloc(), line, FIRST, 0, 0)?;
+        assert_eq!(rt; came.told(), (1, 0, USAGE_TEXT), "{line}");
     }
     Ok(())
 }
 
 /// What a run of the rows of 7 writes.
 fn summary_of_7(alloc: Global) -> Result<MemorySink, NoMemory> {
-    let mut sink = sink(alloc, 0)?;
-    let _outcome = call(alloc, "flatflash load 7", b"", 0, &mut sink)?;
-    Ok(sink)
+    Ok(call_with(alloc, "flatflash load 7", b"", 0, 0)?.sink)
 }
 
 #[test]
@@ -161,17 +190,9 @@ fn a_number_gives_the_same_summary_twice(rt: HostRuntime) -> Result<(), Fail> {
 fn each_failing_read_is_a_read_fault(rt: HostRuntime) -> Result<(), Fail> {
     // The first read gives the whole input and the second finds its end.
     for failing_read in 1..3 {
-        let mut sink = sink(rt.alloc(), 0)?;
-        let outcome = call(
-            rt.alloc(),
-            "flatflash schedule",
-            FIRST,
-            failing_read,
-            &mut sink,
-        )?;
-        assert_eq!(rt; outcome.status, 4, "at read {failing_read}");
-        assert_eq!(rt; sink.written(), b"read fault\n".as_slice());
-        assert!(rt; outcome.sessions.is_empty());
+        let came = call_with(rt.alloc(), "flatflash schedule", FIRST, failing_read, 0)?;
+        let wanted = (4, 0, b"read fault\n".as_slice());
+        assert_eq!(rt; came.told(), wanted, "at read {failing_read}");
     }
     Ok(())
 }
@@ -185,35 +206,28 @@ fn lines_before(alloc: Global, line: usize) -> Result<Vec<u8>, AllocError> {
     Ok(text)
 }
 
+// What a schedule comes to in which the write of a line fails, counted from 0.
+fn cut_off(alloc: Global, input: &[u8], line: usize) -> Result<Came, NoMemory> {
+    call_with(alloc, "flatflash schedule", input, 0, line as u64 + 1)
+}
+
 #[test]
 fn each_failing_write_leaves_a_prefix(rt: HostRuntime) -> Result<(), Fail> {
-    let alloc = rt.alloc();
     for line in 0..FIRST_LINES.len() {
-        let mut sink = sink(alloc, line as u64 + 1)?;
-        let outcome = call(alloc, "flatflash schedule", FIRST, 0, &mut sink)?;
-        assert_eq!(rt; outcome.status, 5, "at line {line}");
-        assert_eq!(rt; sink.written(), lines_before(alloc, line)?.as_slice());
-        assert_eq!(rt; outcome.sessions.len(), 1);
+        let came = cut_off(rt.alloc(), FIRST, line)?;
+        let text = lines_before(rt.alloc(), line)?;
+        assert_eq!(rt; came.told(), (5, 1, text.as_slice()), "at line {line}");
     }
-    let mut sink = sink(alloc, 1)?;
-    let outcome = call(alloc, "flatflash schedule", b"", 0, &mut sink)?;
-    assert_eq!(rt; (outcome.status, outcome.sessions.len()), (5, 0));
-    assert_eq!(rt; sink.written(), b"".as_slice());
+    let came = cut_off(rt.alloc(), b"", 0)?;
+    assert_eq!(rt; came.told(), (5, 0, b"".as_slice()));
     Ok(())
 }
 
 #[test]
 fn each_prefix_of_an_input_runs_or_is_refused(rt: HostRuntime) -> Result<(), Fail> {
     for len in 0..=FIRST.len() {
-        let mut sink = sink(rt.alloc(), 0)?;
-        let outcome = call(
-            rt.alloc(),
-            "flatflash schedule",
-            &FIRST[..len],
-            0,
-            &mut sink,
-        )?;
-        assert!(rt; matches!(outcome.status, 0 | 2 | 3), "at {len} bytes");
+        let came = scheduled(rt.alloc(), &FIRST[..len])?;
+        assert!(rt; matches!(came.status, 0 | 2 | 3), "at {len} bytes");
     }
     Ok(())
 }

@@ -41,7 +41,7 @@ enum Way {
 
 type Answer = Option<Result<(), FlashStop>>;
 
-const WAYS: [Way; 5] = [
+static WAYS: [Way; 5] = [
     Way::Works,
     Way::Fails,
     Way::Cut(0),
@@ -51,7 +51,7 @@ const WAYS: [Way; 5] = [
 
 // The operation, the state of the first two pages of the block before it, and for each way that it goes the letter of
 // its answer and those of the two states after it.
-const ROWS: [(Call, u8, &[u8; 20]); 11] = [
+static ROWS: [(Call, u8, &[u8; 20]); 11] = [
     (Call::Probe, b'e', b"oee fee -ee -ee -ee "),
     (Call::Probe, b's', b"oss fss -ss -ss -ss "),
     (Call::Probe, b'c', b"occ fcc -cc -cc -cc "),
@@ -67,8 +67,8 @@ const ROWS: [(Call, u8, &[u8; 20]); 11] = [
 
 #[test]
 fn pages_change_by_the_table(rt: HostRuntime) -> Result<(), Fail> {
-    for (call, state, wanted) in ROWS {
-        assert_eq!(rt; row(rt.alloc(), call, state)?, *wanted);
+    for (call, state, wanted) in ROWS.iter() {
+        assert_eq!(rt; row(rt.alloc(), *call, *state)?, **wanted);
     }
     Ok(())
 }

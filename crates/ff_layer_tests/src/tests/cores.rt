@@ -8,7 +8,7 @@ use super::plans::{Fault, USUAL, plan_of};
 use super::rules::{ByDirty, ByHits};
 use ff_base::{Caller, Geometry, PageNo};
 use ff_cache::Cache;
-use ff_core::{Back, Core, Driven, Room};
+use ff_core::{Back, Core, Driven, Lost, Record, Room};
 use ff_evict::Picker;
 use ff_flash::{Flash, SimFlash};
 use ff_model::{Counts, Kind, Op, Piece, Reply};
@@ -119,15 +119,25 @@ fn turns(core: &mut TestCore, kind: Kind, count: u32) -> u32 {
     did
 }
 
-// The first step of a row that is answered otherwise, and the counts.
-fn made_of(alloc: Global, row: &Row) -> Result<(Option<usize>, Counts), Fail> {
-    let mut core = core_of(alloc, row.geometry, row.fault)?;
-    for (number, step) in row.steps.iter().enumerate() {
-        if !is_answered(&mut core, step) {
-            return Ok((Some(number), core.counts()));
+// The first step that is answered otherwise.
+fn first_unlike(core: &mut TestCore, steps: &[Step]) -> Option<usize> {
+    for (number, step) in steps.iter().enumerate() {
+        if !is_answered(core, step) {
+            return Some(number);
         }
     }
-    Ok((None, core.counts()))
+    None
+}
+
+// The first step that is answered otherwise, and the counts.
+fn played(mut core: TestCore, steps: &[Step]) -> (Option<usize>, Counts) {
+    let unlike = first_unlike(&mut core, steps);
+    (unlike, core.counts())
+}
+
+fn made_of(alloc: Global, row: &Row) -> Result<(Option<usize>, Counts), Fail> {
+    let core = core_of(alloc, row.geometry, row.fault)?;
+    Ok(played(core, row.steps))
 }
 
 #[test]
@@ -138,50 +148,80 @@ fn calls_and_turns_come_to_these_answers_and_counts(rt: HostRuntime) -> Result<(
     Ok(())
 }
 
+// How many events, answered calls and turns there are, and the threshold's floor.
+fn held(core: &TestCore) -> (u64, u32, u32, u8) {
+    (
+        core.events(),
+        core.history().len(),
+        core.log().len(),
+        core.floor(),
+    )
+}
+
+fn power_off(core: TestCore, arrive: u32) -> Lost<SimFlash, ByHits, ByDirty> {
+    core.power(arrive)
+}
+
+// The number of a record's first event, how many events there were, the counts, and the first turn's answer.
+fn told(account: &Record) -> (u64, u64, Counts, Option<Back>) {
+    let first = match account.log().get(0) {
+        Some(turn) => Some(turn.answer),
+        None => None,
+    };
+    (
+        account.from_event(),
+        account.events(),
+        *account.counts(),
+        first,
+    )
+}
+
 #[test]
 fn a_session_ends_in_its_record(rt: HostRuntime) -> Result<(), Fail> {
     let mut core = core_of(rt.alloc(), USUAL, Fault::Nothing)?;
     assert_eq!(rt; (core.spare_calls(), core.spare_turns()), (32, 256));
     assert_eq!(rt; call(&mut core, &Op::Verify), Some(Reply::Done));
     assert_eq!(rt; turns(&mut core, Kind::Drain, 1), 0);
+    assert_eq!(rt; held(&core), (1, 1, 1, 1));
+    assert_eq!(rt; *core.geometry(), Geometry::default());
+    let lost = power_off(core, 4);
     assert_eq!(rt;
-        (core.events(), core.history().len(), core.log().len()),
-        (1, 1, 1)
-    );
-    assert_eq!(rt; (core.floor(), *core.geometry()), (1, Geometry::default()));
-    let lost = core.power(4);
-    assert_eq!(rt; (lost.account.from_event(), lost.account.events()), (0, 1));
-    assert_eq!(rt; lost.account.counts(), &Counts::default());
-    assert!(rt;
-        lost.account
-            .log()
-            .get(0)
-            .is_some_and(|turn| turn.answer == Back::Idle)
+        told(&lost.account),
+        (0, 1, Counts::default(), Some(Back::Idle))
     );
     Ok(())
 }
 
-// The first two bytes of page 0 in what the battery kept, and how many entries are kept.
+// The first two bytes of page 0, where it is cached.
+fn first_bytes(cache: &Cache) -> (u8, u8) {
+    cache.known();
+    match cache.find(PageNo(0)) {
+        Some(slot) => {
+            let line = cache.line(slot, 0);
+            (line[0], line[1])
+        }
+        None => (0, 0),
+    }
+}
+
+// How many entries are kept, and the first two bytes of page 0 in what the battery kept.
 fn left_by(alloc: Global, core: TestCore, arrive: u32) -> Result<(u32, u8, u8), Fail> {
     core.known();
     let geometry = *core.geometry();
     let lost = core.power(arrive);
     let kept = lost.account.kept();
     match Cache::from_nv(alloc, lost.nv, &geometry) {
-        Ok(parts) => match parts.cache.find(PageNo(0)) {
-            Some(slot) => {
-                let line = parts.cache.line(slot, 0);
-                Ok((kept, line[0], line[1]))
-            }
-            None => Ok((kept, 0, 0)),
-        },
+        Ok(parts) => {
+            let (first, second) = first_bytes(&parts.cache);
+            Ok((kept, first, second))
+        }
         Err(_) => Err("no memory")?,
     }
 }
 
 #[test]
 fn a_loss_of_power_keeps_what_arrived_and_was_acknowledged(rt: HostRuntime) -> Result<(), Fail> {
-    for row in &LOSSES {
+    for row in LOSSES.iter() {
         let mut core = core_of(rt.alloc(), USUAL, Fault::Nothing)?;
         assert!(rt; is_answered(&mut core, &Step::Mark(0)));
         assert!(rt; is_answered(&mut core, &Step::Store(0, &[0xaa])));
@@ -208,13 +248,21 @@ fn came_to(core: &TestCore) -> (u64, u32, bool) {
     (core.events(), core.history().len(), core.flash().is_on())
 }
 
+fn cut_power(core: &mut TestCore) {
+    core.cut_power();
+}
+
+// What a load comes to before whose second step the power is cut, what it came to then, and after one more cut.
+fn cut_twice(mut core: TestCore) -> (Option<Driven>, [(u64, u32, bool); 2]) {
+    let driven = load_until(&mut core, Some(1));
+    let first = came_to(&core);
+    cut_power(&mut core);
+    (driven, [first, came_to(&core)])
+}
+
 #[test]
 fn the_power_is_cut_before_an_event(rt: HostRuntime) -> Result<(), Fail> {
-    let mut core = core_of(rt.alloc(), USUAL, Fault::Nothing)?;
-    assert_eq!(rt; core.spare_calls(), 32);
-    assert_eq!(rt; load_until(&mut core, Some(1)), Some(Driven::Off));
-    assert_eq!(rt; came_to(&core), (1, 0, false));
-    core.cut_power();
-    assert_eq!(rt; came_to(&core), (1, 0, false));
+    let core = core_of(rt.alloc(), USUAL, Fault::Nothing)?;
+    assert_eq!(rt; cut_twice(core), (Some(Driven::Off), [(1, 0, false); 2]));
     Ok(())
 }

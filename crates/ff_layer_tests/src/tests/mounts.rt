@@ -23,10 +23,10 @@ const FIVE_BLOCKS: Geometry = Geometry {
 };
 
 // The pages that are stored, one after the other, each with a program and a seal: ten operations.
-const STORED: [(u32, u8); 5] = [(0, 0xa0), (1, 0xa1), (0, 0xb0), (2, 0xa2), (4, 0xa4)];
+static STORED: [(u32, u8); 5] = [(0, 0xa0), (1, 0xa1), (0, 0xb0), (2, 0xa2), (4, 0xa4)];
 
 // The pages that are cached, with their bytes and the byte that is written over the first.
-const CACHED: [(u32, u8, Option<u8>); 4] = [
+static CACHED: [(u32, u8, Option<u8>); 4] = [
     (1, 0xa1, None),
     (2, 0xa2, Some(0xd2)),
     (3, 0x00, Some(0xd3)),
@@ -34,7 +34,7 @@ const CACHED: [(u32, u8, Option<u8>); 4] = [
 ];
 
 // The first two bytes of each page that is held, and its marked lines.
-const HELD: [(Option<(u8, u8)>, u64); 6] = [
+static HELD: [(Option<(u8, u8)>, u64); 6] = [
     (Some((0xb0, 0xb0)), 0),
     (Some((0xa1, 0xa1)), 1 << 63),
     (Some((0xd2, 0xa2)), 5),
@@ -51,18 +51,18 @@ fn is_put(rig: &mut StoreRig, number: u32, page: &PageBuf) -> bool {
 
 fn stored_pages(rt: &impl Abort, alloc: Global, page: &mut PageBuf, fault: Fault) -> StoreRig {
     let mut rig = StoreRig::new(alloc, &FIVE_BLOCKS, fault).expect(rt, "want of memory");
-    for (number, byte) in STORED {
-        fill(page, byte);
-        assert!(rt; is_put(&mut rig, number, page), "page {number}");
+    for (number, byte) in STORED.iter() {
+        fill(page, *byte);
+        assert!(rt; is_put(&mut rig, *number, page), "page {number}");
     }
     rig
 }
 
 fn cached_pages(rt: &impl Abort, cache: &mut Cache, page: &mut PageBuf) {
-    for (number, byte, written) in CACHED {
-        fill(page, byte);
+    for (number, byte, written) in CACHED.iter() {
+        fill(page, *byte);
         assert!(rt;
-            cache_page(cache, PageNo(number), page, written),
+            cache_page(cache, PageNo(*number), page, *written),
             "page {number}"
         );
     }
@@ -108,81 +108,65 @@ fn lines_of(image: &Image, number: u32) -> Option<u64> {
     }
 }
 
-fn check_image(rt: &impl Abort, parts: &mut Parts, alloc: Global) {
-    let image = parts.image(alloc);
-    let Some(Ok(image)) = image else {
-        panic!(rt; "an image");
-    };
-    assert_eq!(rt; image.pages(), 6);
+// Whether an image has what is held, and nothing else.
+fn has_held(image: &Image) -> bool {
     for (number, (bytes, lines)) in HELD.iter().enumerate() {
-        assert_eq!(rt; first_bytes(&image, number as u32), *bytes, "page {number}");
-        assert_eq!(rt;
-            lines_of(&image, number as u32),
-            Some(*lines),
-            "page {number}"
-        );
+        let number = number as u32;
+        if first_bytes(image, number) != *bytes || lines_of(image, number) != Some(*lines) {
+            return false;
+        }
+    }
+    image.pages() == 6
+}
+
+// Whether an image has what is held, or why it isn't made. With the power off none is begun.
+type Imaged = Option<Result<bool, MountStop>>;
+
+fn image_of(parts: &mut Parts, alloc: Global) -> Imaged {
+    match parts.image(alloc)? {
+        Ok(image) => Some(Ok(has_held(&image))),
+        Err(stop) => Some(Err(stop)),
     }
 }
 
-fn stop_of(parts: &mut Parts, alloc: Global) -> Option<MountStop> {
-    match parts.image(alloc) {
-        Some(Err(stop)) => Some(stop),
-        _ => None,
-    }
+// What an image comes to, the operations that were made by then and whether the power is on, and what a second image
+// comes to.
+type Twice = (Imaged, (u64, bool), Imaged);
+
+fn two_images(mut parts: Parts, alloc: Global) -> Twice {
+    let first = image_of(&mut parts, alloc);
+    let made = parts.made();
+    (first, made, image_of(&mut parts, alloc))
 }
+
+// The stores take ten operations, and an image two. It can be made again where it failed.
+static IMAGES: [(Fault, Twice); 5] = [
+    (Fault::Nothing, (Some(Ok(true)), (12, true), Some(Ok(true)))),
+    (
+        Fault::Fail(10),
+        (Some(Err(MountStop::Fault)), (11, true), Some(Ok(true))),
+    ),
+    (
+        Fault::Fail(11),
+        (Some(Err(MountStop::Fault)), (12, true), Some(Ok(true))),
+    ),
+    (
+        Fault::Cut(10, 1),
+        (Some(Err(MountStop::Off)), (11, false), None),
+    ),
+    (
+        Fault::Cut(11, 1),
+        (Some(Err(MountStop::Off)), (12, false), None),
+    ),
+];
 
 #[test]
-fn an_image_has_what_is_held(rt: HostRuntime) -> Result<(), Fail> {
-    let mut parts = parts_of(&rt, rt.alloc(), Fault::Nothing)?;
-    assert_eq!(rt; parts.made(), (10, true));
-    check_image(&rt, &mut parts, rt.alloc());
-    assert_eq!(rt; parts.made(), (12, true));
-    Ok(())
-}
-
-// An image that stops in the operation after so many. It can be made again where that failed.
-fn check_fail(rt: &impl Abort, alloc: Global, made: u32) -> Result<(), NoMemory> {
-    let mut parts = parts_of(rt, alloc, Fault::Fail(made))?;
-    assert_eq!(rt;
-        stop_of(&mut parts, alloc),
-        Some(MountStop::Fault),
-        "after {made}"
-    );
-    assert_eq!(rt; parts.made(), (u64::from(made) + 1, true));
-    check_image(rt, &mut parts, alloc);
-    Ok(())
-}
-
-fn check_cut(rt: &impl Abort, alloc: Global, made: u32) -> Result<(), NoMemory> {
-    let mut parts = parts_of(rt, alloc, Fault::Cut(made, 1))?;
-    assert_eq!(rt;
-        stop_of(&mut parts, alloc),
-        Some(MountStop::Off),
-        "after {made}"
-    );
-    assert_eq!(rt; parts.made(), (u64::from(made) + 1, false));
-    Ok(())
-}
-
-#[test]
-fn a_read_that_fails_or_is_cut_stops_an_image(rt: HostRuntime) -> Result<(), Fail> {
-    for made in [10, 11] {
-        check_fail(&rt, rt.alloc(), made)?;
-        check_cut(&rt, rt.alloc(), made)?;
+fn an_image_has_what_is_held_or_stops_at_a_read(rt: HostRuntime) -> Result<(), Fail> {
+    for (fault, wanted) in IMAGES.iter() {
+        let parts = parts_of(&rt, rt.alloc(), *fault)?;
+        assert_eq!(rt; two_images(parts, rt.alloc()), *wanted);
     }
     Ok(())
-}
-
-// What was mounted at first, or where that was refused, at the second time.
-fn mounted_again(
-    alloc: Global,
-    mounted: Option<Mounted<SimFlash>>,
-    back: Option<Lost>,
-) -> Option<Mounted<SimFlash>> {
-    match back {
-        Some(lost) => lost.mount(alloc)?.1,
-        None => mounted,
-    }
 }
 
 // The operations that were made, and whether page 3 is mapped.
@@ -191,12 +175,25 @@ fn mapped_by(mounted: &Mounted<SimFlash>) -> (u64, bool) {
     (store.flash().operation_count(), store.is_mapped(PageNo(3)))
 }
 
+// What the last mount made: the first, or where that was refused, the second.
+fn last_made(alloc: Global, first: Result<Mounted<SimFlash>, Lost>) -> Option<(u64, bool)> {
+    match first {
+        Ok(mounted) => Some(mapped_by(&mounted)),
+        Err(lost) => second_made(alloc, lost),
+    }
+}
+
+fn second_made(alloc: Global, lost: Lost) -> Option<(u64, bool)> {
+    match lost.mount(alloc)? {
+        (_, Ok(mounted)) => Some(mapped_by(&mounted)),
+        _ => None,
+    }
+}
+
 // What the first mount came to, and what the last one made.
 fn mounts_of(alloc: Global, fault: Fault) -> Option<(Came, (u64, bool))> {
-    let lost = Lost::new(alloc, &FIVE_BLOCKS, 3, fault)?;
-    let (came, mounted, back) = lost.mount(alloc)?;
-    let mounted = mounted_again(alloc, mounted, back)?;
-    Some((came, mapped_by(&mounted)))
+    let (came, first) = Lost::new(alloc, &FIVE_BLOCKS, 3, fault)?.mount(alloc)?;
+    Some((came, last_made(alloc, first)?))
 }
 
 // Ten places are probed. A probe that fails or is cut hands back what can be mounted again.

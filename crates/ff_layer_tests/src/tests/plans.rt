@@ -33,7 +33,7 @@ pub const SMALL: Geometry = Geometry {
 
 /// The pages that are stored one after the other, and their first bytes. The seventh flush finds no place before a
 /// block is collected.
-pub const STORES: [(u32, u8); 8] = [
+pub static STORES: [(u32, u8); 8] = [
     (0, 0xa0),
     (1, 0xa1),
     (2, 0xa2),

@@ -181,16 +181,30 @@ fn the_first_least_score_from_the_hand_on(rt: HostRuntime) -> Result<(), Fail> {
     Ok(())
 }
 
+// So many frames, of which each is free.
+fn free_frames(alloc: Global, frames: u32) -> Result<Frames, Fail> {
+    Ok(Frames::new(alloc, frames.min(4))?)
+}
+
+// The hand of an evictor that chose the frame before this one.
+fn hand_at(alloc: Global, frame: u32) -> Result<u32, Fail> {
+    let frames = free_frames(alloc, 4)?;
+    Ok(evictor_at(&frames, frame.min(frames.len())).hand())
+}
+
+fn choice_of_none(alloc: Global) -> Result<Option<u32>, Fail> {
+    let frames = free_frames(alloc, 0)?;
+    let buffer = Plb::new(alloc, 1)?;
+    Ok(evictor_at(&frames, 0).choose(&frames, &buffer))
+}
+
 #[test]
 fn the_hand_goes_round(rt: HostRuntime) -> Result<(), Fail> {
-    let none = Frames::new(rt.alloc(), 0)?;
-    let buffer = Plb::new(rt.alloc(), 1)?;
-    assert_eq!(rt; evictor_at(&none, 0).choose(&none, &buffer), None);
-    let frames = Frames::new(rt.alloc(), 4)?;
-    assert_eq!(rt; evictor_at(&frames, 0).hand(), 0);
-    assert_eq!(rt; evictor_at(&frames, 3).hand(), 3);
-    let evictor = evictor_at(&frames, 4);
-    assert_eq!(rt; evictor.hand(), 0);
-    assert_eq!(rt; evictor.into_picker().score(true, 3), 131);
+    assert_eq!(rt; choice_of_none(rt.alloc())?, None);
+    for (frame, hand) in [(0, 0), (3, 3), (4, 0)] {
+        assert_eq!(rt; hand_at(rt.alloc(), frame)?, hand);
+    }
+    let picker = Evictor::new(Picker::new(ByDirty)).into_picker();
+    assert_eq!(rt; picker.score(true, 3), 131);
     Ok(())
 }

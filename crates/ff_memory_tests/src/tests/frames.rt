@@ -1,75 +1,101 @@
 // Taking, storing to and giving back, on two frames.
-ghost use Rattle.std.specs.Prelude.{◌≡◌, ◌<◌, length};
-
 use ff_base::{LINE_BYTES, PageNo};
 use ff_frames::Frames;
 use ff_model::Piece;
 use std::test::Fail;
 
-// The page, the dirty lines and the referred flag of a frame.
-fn state(frames: &Frames, frame: u32) -> (Option<PageNo>, u64, bool)
-    requires { frame < length frames.now }
-{
-    let page = frames.page(frame);
-    let dirty = frames.dirty(frame);
-    (page, dirty.0, frames.referred(frame))
+// How many frames there are and are free, and whether none is.
+fn fullness(frames: &Frames) -> (u32, u32, bool) {
+    (frames.len(), frames.free(), frames.is_full())
 }
 
-// Stores two bytes to line 3 of frame 1.
-fn store(frames: &mut Frames)
-    requires { length frames.old ≡ 2 }
-    ensures { length frames.new ≡ 2 }
-{
-    frames.write(1, 3, 62, &Piece::from_slice(b"ab"));
-    frames.refer(1, true);
+fn take(frames: &mut Frames, page: u32) -> Option<u32> {
+    frames.take(PageNo(page))
 }
 
-fn give_back(frames: &mut Frames, frame: u32)
-    requires { frame < length frames.old }
-    ensures { length frames.new ≡ length frames.old }
-{
-    match frames.page(frame) {
-        Some(_) => frames.give(frame),
-        None => {}
+// Whether a frame is given back, since it is taken.
+fn is_given_back(frames: &mut Frames, frame: u32) -> bool {
+    if frame >= frames.len() || frames.page(frame).is_none() {
+        return false;
     }
+    frames.give(frame);
+    true
 }
 
-fn two_taken(frames: &mut Frames) -> (Option<u32>, Option<u32>, Option<u32>)
-    ensures { length frames.new ≡ length frames.old }
-{
-    let first = frames.take(PageNo(7));
-    let second = frames.take(PageNo(8));
-    (first, second, frames.take(PageNo(9)))
+// The page, the dirty lines and the referred flag of a frame.
+fn state(frames: &Frames, frame: u32) -> Option<(Option<PageNo>, u64, bool)> {
+    if frame >= frames.len() {
+        return None;
+    }
+    let dirty = frames.dirty(frame);
+    Some((frames.page(frame), dirty.0, frames.referred(frame)))
+}
+
+// Line 3 of frame 1, after a change.
+fn line_after(frames: &mut Frames, change: Change) -> Option<[u8; LINE_BYTES]> {
+    if frames.len() < 2 {
+        return None;
+    }
+    match change {
+        Change::Store => frames.write(1, 3, 62, &Piece::from_slice(b"ab")),
+        Change::Refer => frames.refer(1, true),
+        Change::Fill => frames.fill(1, 3, &[7; LINE_BYTES]),
+        Change::Clean => frames.clean(1, 3),
+    }
+    Some(frames.line(1, 3))
+}
+
+/// What is done to line 3 of frame 1: two bytes are stored at its end, the frame is referred to, the line is filled with
+/// sevens, or it is cleaned.
+#[derive(Clone, Copy)]
+enum Change {
+    Store,
+    Refer,
+    Fill,
+    Clean,
 }
 
 #[test]
 fn the_least_free_frame_is_taken(rt: HostRuntime) -> Result<(), Fail> {
     let mut frames = Frames::new(rt.alloc(), 2)?;
-    frames.known();
-    assert_eq!(rt; (frames.len(), frames.free()), (2, 2));
-    assert_eq!(rt; two_taken(&mut frames), (Some(0), Some(1), None));
-    assert_eq!(rt; (frames.free(), frames.is_full()), (0, true));
-    give_back(&mut frames, 0);
-    assert_eq!(rt; (frames.free(), frames.is_full()), (1, false));
-    assert_eq!(rt; state(&frames, 0), (None, 0, false));
-    assert_eq!(rt; frames.take(PageNo(5)), Some(0));
+    assert_eq!(rt; fullness(&frames), (2, 2, false));
+    for (page, frame) in [(7, Some(0)), (8, Some(1)), (9, None)] {
+        assert_eq!(rt; take(&mut frames, page), frame);
+    }
+    assert_eq!(rt; fullness(&frames), (2, 0, true));
+    assert!(rt; is_given_back(&mut frames, 0));
+    assert_eq!(rt; fullness(&frames), (2, 1, false));
+    assert_eq!(rt; state(&frames, 0), Some((None, 0, false)));
+    assert_eq!(rt; take(&mut frames, 5), Some(0));
     Ok(())
+}
+
+// Changes, the first 62 bytes of the line and its last two, its frame's dirty lines, and whether the frame is referred to.
+static CHANGES: [(Change, u8, [u8; 2], u64, bool); 4] = [
+    (Change::Store, 0, *b"ab", 0b1000, false),
+    (Change::Refer, 0, *b"ab", 0b1000, true),
+    (Change::Fill, 7, [7, 7], 0b1000, true),
+    (Change::Clean, 7, [7, 7], 0, true),
+];
+
+fn line_of(first: u8, last: [u8; 2]) -> [u8; LINE_BYTES] {
+    let mut line = [first; LINE_BYTES];
+    line[62] = last[0];
+    line[63] = last[1];
+    line
 }
 
 #[test]
 fn a_stored_line_is_dirty(rt: HostRuntime) -> Result<(), Fail> {
     let mut frames = Frames::new(rt.alloc(), 2)?;
-    let _ = two_taken(&mut frames);
-    store(&mut frames);
-    let mut line = [0; LINE_BYTES];
-    line[62..].copy_from_slice(b"ab");
-    assert_eq!(rt; frames.line(1, 3), line);
-    assert_eq!(rt; state(&frames, 1), (Some(PageNo(8)), 0b1000, true));
-    frames.fill(1, 3, &[7; LINE_BYTES]);
-    assert_eq!(rt; frames.line(1, 3), [7; LINE_BYTES]);
-    assert_eq!(rt; state(&frames, 1), (Some(PageNo(8)), 0b1000, true));
-    frames.clean(1, 3);
-    assert_eq!(rt; state(&frames, 1), (Some(PageNo(8)), 0, true));
-    assert_eq!(rt; state(&frames, 0), (Some(PageNo(7)), 0, false));
+    let _ = take(&mut frames, 7);
+    let _ = take(&mut frames, 8);
+    for (change, first, last, dirty, referred) in CHANGES.iter() {
+        let line = line_after(&mut frames, *change);
+        assert_eq!(rt; line, Some(line_of(*first, *last)));
+        let wanted = (Some(PageNo(8)), *dirty, *referred);
+        assert_eq!(rt; state(&frames, 1), Some(wanted));
+    }
+    assert_eq!(rt; state(&frames, 0), Some((Some(PageNo(7)), 0, false)));
     Ok(())
 }

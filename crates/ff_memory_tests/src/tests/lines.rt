@@ -5,6 +5,7 @@ use std::test::Fail;
 
 // A mask, its least clear line, whether it has line 1 and line 63, and it with line 2 put in, with line 0 taken out,
 // and its other lines.
+#[derive(Clone, Copy, Debug, PartialEq, Eq)]
 struct Row {
     mask: u64,
     first_clear: Option<u8>,
@@ -15,7 +16,7 @@ struct Row {
     others: u64,
 }
 
-const ROWS: [Row; 5] = [
+static ROWS: [Row; 5] = [
     Row {
         mask: 0,
         first_clear: Some(0),
@@ -63,20 +64,36 @@ const ROWS: [Row; 5] = [
     },
 ];
 
+fn with(mask: LineMask, line: u8) -> LineMask {
+    let mut with = mask;
+    with.set(line.min(63));
+    with
+}
+
+fn without(mask: LineMask, line: u8) -> LineMask {
+    let mut without = mask;
+    without.clear(line.min(63));
+    without
+}
+
+// What a mask comes to.
+fn row_of(mask: u64) -> Row {
+    let lines = LineMask(mask);
+    Row {
+        mask,
+        first_clear: lines.first_clear(),
+        has_1: lines.has(1),
+        has_63: lines.has(63),
+        with_2: with(lines, 2).0,
+        without_0: without(lines, 0).0,
+        others: lines.complement().0,
+    }
+}
+
 #[test]
 fn masks_by_their_lines(rt: HostRuntime) {
-    for row in &ROWS {
-        let mask = LineMask(row.mask);
-        assert_eq!(rt; mask.first_clear(), row.first_clear);
-        assert_eq!(rt; mask.has(1), row.has_1);
-        assert_eq!(rt; mask.has(63), row.has_63);
-        assert_eq!(rt; mask.complement(), LineMask(row.others));
-        let mut with_2 = mask;
-        with_2.set(2);
-        assert_eq!(rt; with_2, LineMask(row.with_2));
-        let mut without_0 = mask;
-        without_0.clear(0);
-        assert_eq!(rt; without_0, LineMask(row.without_0));
+    for row in ROWS.iter() {
+        assert_eq!(rt; row_of(row.mask), *row);
     }
 }
 

@@ -43,7 +43,7 @@ const ELEVENS: [u8; 64] = [0x11; 64];
 const TWENTY_TWOS: [u8; 64] = [0x22; 64];
 
 // A store to a line that is under way, to one that isn't copied, to a page that leaves, and a mark.
-const ROWS: [Row; 4] = [
+static ROWS: [Row; 4] = [
     Row {
         frames: 4,
         calls: &[

@@ -31,7 +31,7 @@ enum End {
 // A step, what came of the flight that it ended, and the way, the copied lines and the line under way after it.
 struct Row(Step, End, Option<(Way, u64, Option<u8>)>);
 
-const ROWS: [Row; 20] = [
+static ROWS: [Row; 20] = [
     Row(
         Step::Begin(Way::Coming, 0),
         End::None,
@@ -245,7 +245,7 @@ fn in_flight(alloc: Global) -> Result<Plb, Fail>
     Ok(plb)
 }
 
-const NEXT: [(Way, NextStep, Option<u32>); 6] = [
+static NEXT: [(Way, NextStep, Option<u32>); 6] = [
     (Way::Coming, NextStep::Finish, Some(4)),
     (Way::Coming, NextStep::Land, Some(3)),
     (Way::Coming, NextStep::Lift, Some(2)),

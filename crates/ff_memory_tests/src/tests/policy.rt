@@ -1,6 +1,5 @@
 // The program's rule for the threshold, on a policy of two pages.
-ghost use Rattle.std.specs.Prelude.{◌≡◌, ◌+◌, ◌<◌, ◌≤◌, IfOk, length};
-ghost use Rattle.ff_base.specs.Count.{HasCountLeft};
+ghost use Rattle.std.specs.Prelude.{◌≡◌, ◌≤◌, IfOk, length};
 
 use ff_base::PageNo;
 use ff_policy::{Policy, Tune, Tuner};
@@ -28,8 +27,18 @@ impl Tune for ByHits {
     }
 }
 
+// A policy of two pages, whose calls see to it that they may be made.
+#[derive(Drop)]
+struct TwoPages {
+    policy: Policy<ByHits>,
+    ghost pages: { length policy.counters ≡ 2 },
+}
+
+// The counter of page 0, its threshold, host hits, device accesses and promotions.
+type Numbers = (u8, u8, u64, u64, u64);
+
 fn policy(alloc: Global) -> Result<Policy<ByHits>, Fail>
-    ensures { IfOk result (λ policy. (length policy.counters ≡ 2) × (policy.accesses ≡ 0)) }
+    ensures { IfOk result (λ policy. length policy.counters ≡ 2) }
 {
     let tuner = Tuner::new(1, 4, ByHits);
     match Policy::new(alloc, 2, tuner) {
@@ -38,75 +47,111 @@ fn policy(alloc: Global) -> Result<Policy<ByHits>, Fail>
     }
 }
 
-// So many accesses to page 0 that the device serves.
-fn access_page_0(policy: &mut Policy<ByHits>, count: u64)
-    requires page { 0 < length policy.old.counters }
-    requires few { HasCountLeft (policy.old.accesses + count) }
-    ensures pages { length policy.new.counters ≡ length policy.old.counters }
-    ensures accesses { policy.new.accesses ≡ policy.old.accesses + count }
-{
-    for _at in 0..count {
-        policy.device_access(PageNo(0));
+impl TwoPages {
+    fn new(alloc: Global) -> Result<TwoPages, Fail> {
+        Ok(TwoPages {
+            policy: policy(alloc)?,
+        })
+    }
+
+    // An access to a page that the device serves.
+    fn device_access(&mut self, page: u32) {
+        if page < 2 && self.policy.accesses() < 1 << 62 {
+            self.policy.device_access(PageNo(page));
+        }
+    }
+
+    // An access that a frame serves.
+    fn host_access(&mut self) {
+        if self.policy.hits() < 1 << 62 {
+            self.policy.host_access();
+        }
+    }
+
+    fn is_hot(&self, page: u32) -> bool {
+        page < 2 && self.policy.is_hot(PageNo(page))
+    }
+
+    fn promote(&mut self, page: u32) {
+        if page < 2 && self.policy.is_hot(PageNo(page)) {
+            self.policy.promote(PageNo(page));
+        }
+    }
+
+    fn counted(&self) -> &[PageNo] {
+        self.policy.counted()
+    }
+
+    fn numbers(&self) -> Numbers {
+        (
+            self.policy.counter(PageNo(0)),
+            self.policy.threshold(),
+            self.policy.hits(),
+            self.policy.accesses(),
+            self.policy.promotions(),
+        )
     }
 }
 
-// So many accesses that a frame serves.
-fn access_a_frame(policy: &mut Policy<ByHits>, count: u64)
-    requires { HasCountLeft (policy.old.hits + count) }
-    ensures pages { length policy.new.counters ≡ length policy.old.counters }
-    ensures accesses { policy.new.accesses ≡ policy.old.accesses }
-{
-    for _at in 0..count {
+// So many accesses that a frame serves, and then to page 0 that the device serves.
+fn access(policy: &mut TwoPages, by_frame: u64, by_device: u64) {
+    for _ in 0..by_frame {
         policy.host_access();
     }
+    for _ in 0..by_device {
+        policy.device_access(0);
+    }
 }
 
-// The counter of page 0, its threshold, host hits, device accesses and promotions.
-fn numbers(policy: &Policy<ByHits>) -> (u8, u8, u64, u64, u64)
-    requires { length policy.now.counters ≡ 2 }
-{
-    (
-        policy.counter(PageNo(0)),
-        policy.threshold(),
-        policy.hits(),
-        policy.accesses(),
-        policy.promotions(),
-    )
-}
+// Accesses that a frame serves, accesses to page 0 that the device serves, and the numbers after them.
+static ACCESSES: [(u64, u64, Numbers); 5] = [
+    (0, 0, (0, 4, 0, 0, 0)),
+    (0, 63, (63, 4, 0, 63, 0)),
+    (0, 1, (32, 5, 0, 64, 0)),
+    (16, 0, (32, 5, 16, 64, 0)),
+    (0, 64, (48, 4, 0, 128, 0)),
+];
 
 #[test]
 fn the_threshold_follows_the_hits(rt: HostRuntime) -> Result<(), Fail> {
-    let mut policy = policy(rt.alloc())?;
-    policy.known();
-    assert_eq!(rt; numbers(&policy), (0, 4, 0, 0, 0));
-    access_page_0(&mut policy, 63);
-    assert_eq!(rt; numbers(&policy), (63, 4, 0, 63, 0));
-    access_page_0(&mut policy, 1);
-    assert_eq!(rt; numbers(&policy), (32, 5, 0, 64, 0));
-    assert_eq!(rt; policy.hits(), 0);
-    access_a_frame(&mut policy, 16);
-    access_page_0(&mut policy, 64);
-    assert_eq!(rt; numbers(&policy), (48, 4, 0, 128, 0));
-    let tuner = policy.into_tuner();
-    assert_eq!(rt; tuner.floor(), 1);
-    assert_eq!(rt; tuner.start(), 4);
-    assert_eq!(rt; tuner.next(2, 64, 5), 6);
+    let mut policy = TwoPages::new(rt.alloc())?;
+    for (by_frame, by_device, wanted) in ACCESSES.iter() {
+        access(&mut policy, *by_frame, *by_device);
+        assert_eq!(rt; policy.numbers(), *wanted);
+    }
+    Ok(())
+}
+
+// The threshold behind one of 5, where 2 of 64 accesses were hits.
+fn next_of_5(tuner: &Tuner<ByHits>) -> Option<u8> {
+    if tuner.floor() > 5 {
+        return None;
+    }
+    Some(tuner.next(2, 64, 5))
+}
+
+fn told(tuner: &Tuner<ByHits>) -> (u8, u8, Option<u8>) {
+    (tuner.floor(), tuner.start(), next_of_5(tuner))
+}
+
+#[test]
+fn a_policy_gives_its_tuner_back(rt: HostRuntime) -> Result<(), Fail> {
+    let tuner = policy(rt.alloc())?.into_tuner();
+    assert_eq!(rt; told(&tuner), (1, 4, Some(6)));
     Ok(())
 }
 
 #[test]
 fn a_promotion_takes_the_counter(rt: HostRuntime) -> Result<(), Fail> {
-    let mut policy = policy(rt.alloc())?;
-    access_page_0(&mut policy, 3);
-    assert!(rt; !policy.is_hot(PageNo(0)));
-    access_page_0(&mut policy, 1);
-    assert!(rt; !policy.is_hot(PageNo(1)));
-    policy.device_access(PageNo(1));
+    let mut policy = TwoPages::new(rt.alloc())?;
+    access(&mut policy, 0, 3);
+    assert!(rt; !policy.is_hot(0));
+    access(&mut policy, 0, 1);
+    assert!(rt; policy.is_hot(0) && !policy.is_hot(1));
+    policy.device_access(1);
     assert_eq!(rt; policy.counted(), [PageNo(0), PageNo(1)].as_slice());
-    if policy.is_hot(PageNo(0)) {
-        policy.promote(PageNo(0));
-    }
-    assert_eq!(rt; numbers(&policy), (0, 4, 0, 5, 1));
+    policy.promote(0);
+    assert_eq!(rt; policy.numbers(), (0, 4, 0, 5, 1));
     assert_eq!(rt; policy.counted(), [PageNo(1)].as_slice());
     Ok(())
 }

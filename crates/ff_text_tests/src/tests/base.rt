@@ -54,24 +54,32 @@ fn geometry(numbers: [u32; 9]) -> Geometry {
     }
 }
 
+// Sizes that are within their bounds, and how many pages the flash has room for.
+static ALLOWED: [([u32; 9], u32); 4] = [
+    ([8, 4, 16, 1, 4, 4, 2, 4, 1], 27),
+    ([3, 2, 1, 1, 1, 0, 1, 1, 1], 3),
+    ([4096, 4, 65536, 4096, 1, 4096, 64, 64, 8], 16379),
+    ([64, 256, 65536, 256, 16, 4096, 64, 64, 8], 16127),
+];
+
+// The capacity of a geometry that is within its bounds.
+fn capacity(geometry: &Geometry) -> Result<u32, Limit> {
+    geometry.check()?;
+    Ok(geometry.capacity())
+}
+
 #[test]
 fn bounds_are_allowed(rt: HostRuntime) {
-    assert_eq!(rt; Geometry::default(), geometry([8, 4, 16, 1, 4, 4, 2, 4, 1]));
-    assert_eq!(rt; Geometry::default().capacity(), 27);
-    for numbers in [
-        [8, 4, 16, 1, 4, 4, 2, 4, 1],
-        [3, 2, 1, 1, 1, 0, 1, 1, 1],
-        [4096, 4, 65536, 4096, 1, 4096, 64, 64, 8],
-        [64, 256, 65536, 256, 16, 4096, 64, 64, 8],
-    ] {
-        assert_eq!(rt; geometry(numbers).check(), Ok(()));
+    for (numbers, pages) in ALLOWED.iter() {
+        assert_eq!(rt; capacity(&geometry(*numbers)), Ok(*pages));
     }
+    assert!(rt; Geometry::default() == geometry(ALLOWED[0].0));
 }
 
 // The numbers of a geometry, and the limit that they break first: its name, value and bounds.
 type Broken = ([u32; 9], LimitName, u32, u32, u32);
 
-const BROKEN: [Broken; 21] = [
+static BROKEN: [Broken; 21] = [
     ([2, 4, 16, 1, 4, 4, 2, 4, 1], LimitName::Blocks, 2, 3, 4096),
     (
         [4097, 4, 16, 1, 4, 4, 2, 4, 1],
@@ -145,13 +153,13 @@ const BROKEN: [Broken; 21] = [
 
 #[test]
 fn the_first_broken_bound_is_named(rt: HostRuntime) {
-    for (numbers, name, value, least, greatest) in BROKEN {
+    for (numbers, name, value, least, greatest) in BROKEN.iter() {
         let limit = Limit {
-            name,
-            value,
-            least,
-            greatest,
+            name: *name,
+            value: *value,
+            least: *least,
+            greatest: *greatest,
         };
-        assert_eq!(rt; geometry(numbers).check(), Err(limit));
+        assert_eq!(rt; geometry(*numbers).check(), Err(limit));
     }
 }

@@ -24,19 +24,25 @@ fn a_source_fails_at_its_second_read(rt: HostRuntime) -> Result<(), Fail> {
     Ok(())
 }
 
+// Pieces that are written one after the other, what each write answers, and what is written then.
+static WRITES: [(&[u8], Result<(), Failed>, &[u8]); 5] = [
+    (&[1, 2], Ok(()), &[1, 2]),
+    (&[3], Err(Failed), &[1, 2]),
+    (&[3, 4, 5], Err(Failed), &[1, 2]),
+    (&[3, 4], Ok(()), &[1, 2, 3, 4]),
+    (&[], Ok(()), &[1, 2, 3, 4]),
+];
+
 #[test]
 fn a_sink_fails_at_its_second_write_and_where_a_piece_does_not_fit(
     rt: HostRuntime,
 ) -> Result<(), Fail> {
     let fail = vec![in rt.alloc(); 2]?;
     let mut sink = MemorySink::new(rt.alloc(), 4, fail)?;
-    assert_eq!(rt; write_to(&mut sink, &[1, 2]), Ok(()));
-    assert_eq!(rt; write_to(&mut sink, &[3]), Err(Failed));
-    assert_eq!(rt; write_to(&mut sink, &[3, 4, 5]), Err(Failed));
-    assert_eq!(rt; sink.written(), [1, 2].as_slice());
-    assert_eq!(rt; write_to(&mut sink, &[3, 4]), Ok(()));
-    assert_eq!(rt; write_to(&mut sink, &[]), Ok(()));
-    assert_eq!(rt; sink.written(), [1, 2, 3, 4].as_slice());
+    for (piece, answer, written) in WRITES.iter() {
+        assert_eq!(rt; write_to(&mut sink, piece), *answer);
+        assert_eq!(rt; sink.written(), *written);
+    }
     assert_eq!(rt; sink.faults(), 2);
     Ok(())
 }

@@ -26,35 +26,66 @@ fn store(at: u32, bytes: &[u8]) -> Op
     }
 }
 
+// Appends a call and its reply, if there is room for them.
+fn push(history: &mut History, op: Op, reply: Reply) -> bool {
+    if history.spare() == 0 {
+        return false;
+    }
+    history.push(entry(op, reply));
+    true
+}
+
+fn push_store(history: &mut History, at: u32, bytes: &[u8], is_done: bool) -> bool {
+    let reply = if is_done { Reply::Done } else { Reply::Full };
+    bytes.len() <= 64 && push(history, store(at, bytes), reply)
+}
+
+// Whether there are so many entries, of which the last is a verify.
+fn ends_in_verify(history: &History, entries: u32) -> bool {
+    let last = match history.get(entries.saturating_sub(1)) {
+        Some(last) => last.op == Op::Verify,
+        None => false,
+    };
+    last && history.len() == entries && history.get(entries).is_none()
+}
+
+// Stores, by their addresses and bytes, and whether each is done or refused as full.
+static STORES: [(u32, &[u8], bool); 4] = [
+    (10, &[1, 2, 3], true),
+    (11, &[4], true),
+    (10, &[9, 9, 9], false),
+    (4096, &[5], true),
+];
+
+// Addresses, and their bytes after the stores.
+static BYTES: [(u32, u8); 7] = [
+    (9, 0),
+    (10, 1),
+    (11, 4),
+    (12, 3),
+    (13, 0),
+    (4096, 5),
+    (8192, 0),
+];
+
 #[test]
 fn the_latest_done_store_gives_a_byte(rt: HostRuntime) -> Result<(), Fail> {
     let base = Image::new(rt.alloc(), 2)?;
     let mut history = History::new(rt.alloc(), 5)?;
     assert!(rt; history.is_empty());
-    history.push(entry(store(10, &[1, 2, 3]), Reply::Done));
-    history.push(entry(store(11, &[4]), Reply::Done));
-    history.push(entry(store(10, &[9, 9, 9]), Reply::Full));
-    history.push(entry(store(4096, &[5]), Reply::Done));
-    history.push(entry(Op::Verify, Reply::Done));
-    assert_eq!(rt; history.len(), 5);
-    assert!(rt; history.get(5).is_none());
-    assert!(rt; history.get(4).is_some_and(|last| last.op == Op::Verify));
-    for (at, byte) in [
-        (9, 0),
-        (10, 1),
-        (11, 4),
-        (12, 3),
-        (13, 0),
-        (4096, 5),
-        (8192, 0),
-    ] {
-        assert_eq!(rt; flat_byte(&base, &history, at), byte, "at {at}");
+    for (at, bytes, is_done) in STORES.iter() {
+        assert!(rt; push_store(&mut history, *at, bytes, *is_done));
+    }
+    assert!(rt; push(&mut history, Op::Verify, Reply::Done));
+    assert!(rt; ends_in_verify(&history, 5));
+    for (at, byte) in BYTES.iter() {
+        assert_eq!(rt; flat_byte(&base, &history, *at), *byte, "at {at}");
     }
     Ok(())
 }
 
 // An address, a length, and whether the span is in range of 16 pages.
-const SPANS: [(u32, u32, bool); 8] = [
+static SPANS: [(u32, u32, bool); 8] = [
     (65535, 1, true),
     (65536, 1, false),
     (60, 4, true),
@@ -66,7 +97,7 @@ const SPANS: [(u32, u32, bool); 8] = [
 ];
 
 // A page, its first line, how many lines, and whether they are in range of 16 pages.
-const LINES: [(u32, u32, u32, bool); 6] = [
+static LINES: [(u32, u32, u32, bool); 6] = [
     (15, 0, 64, true),
     (15, 60, 5, false),
     (15, 60, 0, false),
@@ -75,27 +106,33 @@ const LINES: [(u32, u32, u32, bool); 6] = [
     (15, 4294967295, 4294967295, false),
 ];
 
+fn is_load_in_range(at: u32, len: u32) -> bool {
+    Op::Load { at, len }.is_in_range(16)
+}
+
+// Whether a mark and a release of these lines are in range.
+fn are_lines_in_range(page: u32, from: u32, count: u32) -> (bool, bool) {
+    let page = PageNo(page);
+    let mark = Op::Mark { page, from, count };
+    let release = Op::Release { page, from, count };
+    (mark.is_in_range(16), release.is_in_range(16))
+}
+
+fn is_store_in_range(at: u32, bytes: &[u8]) -> bool {
+    bytes.len() <= 64 && store(at, bytes).is_in_range(16)
+}
+
 #[test]
 fn a_call_is_in_range_within_a_line_and_the_pages(rt: HostRuntime) {
-    for (at, len, is_in_range) in SPANS {
-        assert_eq!(rt;
-            Op::Load { at, len }.is_in_range(16),
-            is_in_range,
-            "at {at}"
-        );
+    for (at, len, is_in_range) in SPANS.iter() {
+        assert_eq!(rt; is_load_in_range(*at, *len), *is_in_range, "at {at}");
     }
-    for (page, from, count, is_in_range) in LINES {
-        let page = PageNo(page);
-        assert_eq!(rt; Op::Mark { page, from, count }.is_in_range(16), is_in_range);
-        assert_eq!(rt;
-            Op::Release { page, from, count }.is_in_range(16),
-            is_in_range
-        );
+    for (page, from, count, is_in_range) in LINES.iter() {
+        let found = are_lines_in_range(*page, *from, *count);
+        assert_eq!(rt; found, (*is_in_range, *is_in_range));
     }
-    assert!(rt; Op::Verify.is_in_range(16));
-    assert!(rt; store(63, &[1]).is_in_range(16));
-    assert!(rt; !store(63, &[1, 2]).is_in_range(16));
-    assert!(rt; !store(63, &[]).is_in_range(16));
+    assert!(rt; Op::Verify.is_in_range(16) && is_store_in_range(63, &[1]));
+    assert!(rt; !is_store_in_range(63, &[1, 2]) && !is_store_in_range(63, &[]));
 }
 
 // An image of two pages, of which the second is held.
@@ -177,14 +214,19 @@ fn last_entries() -> [(Entry, bool); 12] {
     ]
 }
 
+// The first illegal entry of a history of a store and this entry.
+fn first_illegal_with(alloc: Global, base: &Image, last: Entry) -> Result<Option<u32>, NoMemory> {
+    let mut history = History::new(alloc, 2)?;
+    history.push(answered(2, 0, store(10, &[7]), Reply::Done));
+    history.push(last);
+    Ok(first_illegal(base, &history, &Geometry::default(), 0, 0))
+}
+
 #[test]
 fn the_first_illegal_entry_is_found(rt: HostRuntime) -> Result<(), Fail> {
     let base = Image::new(rt.alloc(), 16)?;
     for (entry, is_legal) in last_entries() {
-        let mut history = History::new(rt.alloc(), 2)?;
-        history.push(answered(2, 0, store(10, &[7]), Reply::Done));
-        history.push(entry);
-        let found = first_illegal(&base, &history, &Geometry::default(), 0, 0);
+        let found = first_illegal_with(rt.alloc(), &base, entry)?;
         assert_eq!(rt; found, if is_legal { None } else { Some(1) });
     }
     Ok(())

@@ -46,6 +46,14 @@ fn gives(alloc: Global, text: &str, wanted: &[Row]) -> bool {
     }
 }
 
+// How many rows a text has, or why it is refused.
+fn length(alloc: Global, text: &str, cuts: u32, threads: bool) -> Result<usize, BadTrace> {
+    match trace(alloc, text.as_bytes(), cuts, threads) {
+        Ok(rows) => Ok(rows.len()),
+        Err(cause) => Err(cause),
+    }
+}
+
 #[test]
 fn rows_come_in_their_order(rt: HostRuntime) {
     let text = "caller,op,a,b\n0,store,10,aabb\n0,store,11,cc\n0,load,10,3\n";
@@ -117,7 +125,7 @@ fn a_record_is_a_row(rt: HostRuntime) -> Result<(), Fail> {
 }
 
 // Records of which none is a row.
-const BAD_ROWS: [&str; 40] = [
+static BAD_ROWS: [&str; 40] = [
     "0,fly,,",
     "0,Load,10,3",
     "64,load,10,3",
@@ -162,68 +170,98 @@ const BAD_ROWS: [&str; 40] = [
     "0,power,1,",
 ];
 
+// How many rows a text has whose second record is this one and whose third is none, or why it is refused.
+fn length_with(alloc: Global, record: &str) -> Result<Result<usize, BadTrace>, AllocError> {
+    let text = format!(in alloc; "caller,op,a,b\n0,load,1,1\n{record}\n0,fly,,\n")?;
+    Ok(length(alloc, text.as_str(), 0, false))
+}
+
 #[test]
 fn a_bad_record_is_no_row(rt: HostRuntime) -> Result<(), Fail> {
-    for record in BAD_ROWS {
-        let text = format!(in rt.alloc(); "caller,op,a,b\n0,load,1,1\n{record}\n0,fly,,\n")?;
-        match trace(rt.alloc(), text.as_bytes(), 0, false) {
-            Ok(_) => panic!(rt; "accepted {record}"),
-            Err(cause) => assert_eq!(rt; cause, BadTrace::Row(2), "at {record}"),
-        }
+    for record in BAD_ROWS.iter() {
+        let found = length_with(rt.alloc(), record)?;
+        assert_eq!(rt; found, Err(BadTrace::Row(2)), "at {record}");
     }
     Ok(())
 }
 
-// How many cuts the settings have, whether callers are threads, a text, and the record that is bad first, if one is.
-const TEXTS: [(u32, bool, &str, Option<u32>); 17] = [
-    (0, false, "", Some(0)),
-    (0, false, "\n\r\n", Some(0)),
-    (0, false, "0,load,10,3\n", Some(0)),
-    (0, false, "caller,op,a\n0,load,10,3\n", Some(0)),
-    (0, false, "caller,op,a,b,c\n0,load,10,3\n", Some(0)),
-    (0, false, "Caller,op,a,b\n0,load,10,3\n", Some(0)),
+// How many cuts the settings have, whether callers are threads, a text, and the number of its rows or the record that is
+// bad first.
+static TEXTS: [(u32, bool, &str, Result<usize, BadTrace>); 17] = [
+    (0, false, "", Err(BadTrace::Row(0))),
+    (0, false, "\n\r\n", Err(BadTrace::Row(0))),
+    (0, false, "0,load,10,3\n", Err(BadTrace::Row(0))),
+    (
+        0,
+        false,
+        "caller,op,a\n0,load,10,3\n",
+        Err(BadTrace::Row(0)),
+    ),
+    (
+        0,
+        false,
+        "caller,op,a,b,c\n0,load,10,3\n",
+        Err(BadTrace::Row(0)),
+    ),
+    (
+        0,
+        false,
+        "Caller,op,a,b\n0,load,10,3\n",
+        Err(BadTrace::Row(0)),
+    ),
     (
         0,
         false,
         "caller,op,a,b\n0,load,1,1\n0,load,2,\"2\n0,load,3,3\n",
-        Some(2),
+        Err(BadTrace::Row(2)),
     ),
     (
         0,
         false,
         "caller,op,a,b\n\n0,load,2,2\n\n0,store,3,xx",
-        Some(2),
+        Err(BadTrace::Row(2)),
     ),
     (
         0,
         false,
         "caller,op,a,b\n-,promote,262144,\n-,evict,262144,\n-,promote,1,",
-        Some(3),
+        Err(BadTrace::Row(3)),
     ),
     (
         0,
         false,
         "caller,op,a,b\n-,collect,262143,\n-,collect,1,\n-,drain,262144,",
-        None,
+        Ok(3),
     ),
-    (16, false, "caller,op,a,b\n-,power,0,", Some(1)),
-    (15, false, "caller,op,a,b\n-,power,0,\n-,power,0,", Some(2)),
-    (15, false, "caller,op,a,b\n-,power,0,", None),
-    (4294967295, false, "caller,op,a,b\n-,power,0,", Some(1)),
-    (17, false, "caller,op,a,b\n0,verify,,", None),
-    (0, true, "caller,op,a,b\n-,power,0,", Some(1)),
-    (0, true, "caller,op,a,b\n-,drain,1,\n63,verify,,", None),
+    (
+        16,
+        false,
+        "caller,op,a,b\n-,power,0,",
+        Err(BadTrace::Row(1)),
+    ),
+    (
+        15,
+        false,
+        "caller,op,a,b\n-,power,0,\n-,power,0,",
+        Err(BadTrace::Row(2)),
+    ),
+    (15, false, "caller,op,a,b\n-,power,0,", Ok(1)),
+    (
+        4294967295,
+        false,
+        "caller,op,a,b\n-,power,0,",
+        Err(BadTrace::Row(1)),
+    ),
+    (17, false, "caller,op,a,b\n0,verify,,", Ok(1)),
+    (0, true, "caller,op,a,b\n-,power,0,", Err(BadTrace::Row(1))),
+    (0, true, "caller,op,a,b\n-,drain,1,\n63,verify,,", Ok(2)),
 ];
 
 #[test]
 fn the_first_bad_record_is_told(rt: HostRuntime) {
-    for (cuts, threads, text, number) in TEXTS {
-        let found = match trace(rt.alloc(), text.as_bytes(), cuts, threads) {
-            Ok(_) => None,
-            Err(BadTrace::Row(number)) => Some(number),
-            Err(BadTrace::NoMemory) => panic!(rt; "no memory at {text}"),
-        };
-        assert_eq!(rt; found, number, "at {text}");
+    for (cuts, threads, text, wanted) in TEXTS.iter() {
+        let found = length(rt.alloc(), text, *cuts, *threads);
+        assert_eq!(rt; found, *wanted, "at {text}");
     }
 }
 
@@ -236,13 +274,16 @@ fn text_of_rows(alloc: Global, rows: u32) -> Result<String, AllocError> {
     Ok(text)
 }
 
+// How many rows a text of so many loads has, or why it is refused.
+fn length_of_rows(alloc: Global, rows: u32) -> Result<Result<usize, BadTrace>, AllocError> {
+    let text = text_of_rows(alloc, rows)?;
+    Ok(length(alloc, text.as_str(), 0, false))
+}
+
 #[test]
 fn one_row_past_the_limit_is_bad(rt: HostRuntime) -> Result<(), Fail> {
-    let text = text_of_rows(rt.alloc(), 262_144)?;
-    let most = trace(rt.alloc(), text.as_str().as_bytes(), 0, false);
-    assert!(rt; most.is_ok_and(|rows| rows.len() == 262_144));
-    let text = text_of_rows(rt.alloc(), 262_145)?;
-    let past = trace(rt.alloc(), text.as_str().as_bytes(), 0, false);
-    assert!(rt; past.is_err_and(|cause| cause == BadTrace::Row(262_145)));
+    assert_eq!(rt; length_of_rows(rt.alloc(), 262_144)?, Ok(262_144));
+    let past = length_of_rows(rt.alloc(), 262_145)?;
+    assert_eq!(rt; past, Err(BadTrace::Row(262_145)));
     Ok(())
 }

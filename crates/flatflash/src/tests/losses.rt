@@ -154,19 +154,18 @@ fn are_good(alloc: Global, sessions: &[Session]) -> Result<bool, NoMemory> {
     Ok(true)
 }
 
+/// Whether the rows run to an end that may be, with one more line of settings.
+fn runs_well(alloc: Global, setting: &Line) -> Result<bool, NoMemory> {
+    let outcome = outcome_of(alloc, setting)?;
+    Ok(matches!(outcome.status, 0 | 7) && are_good(alloc, &outcome.sessions)?)
+}
+
 #[test]
 fn a_cut_in_each_operation_keeps_what_was_promised(rt: HostRuntime) -> Result<(), Fail> {
     for number in 1..41 {
         for mask in [0, 1, 3] {
-            let outcome = outcome_of(rt.alloc(), &cut_at(number, mask))?;
-            assert!(rt;
-                matches!(outcome.status, 0 | 7),
-                "cut at {number} with mask {mask}"
-            );
-            assert!(rt;
-                are_good(rt.alloc(), &outcome.sessions)?,
-                "cut at {number} with mask {mask}"
-            );
+            let is_well = runs_well(rt.alloc(), &cut_at(number, mask))?;
+            assert!(rt; is_well, "cut at {number} with mask {mask}");
         }
     }
     Ok(())
@@ -175,12 +174,8 @@ fn a_cut_in_each_operation_keeps_what_was_promised(rt: HostRuntime) -> Result<()
 #[test]
 fn a_fault_of_each_operation_keeps_what_was_promised(rt: HostRuntime) -> Result<(), Fail> {
     for number in 1..41 {
-        let outcome = outcome_of(rt.alloc(), &failure_at(number))?;
-        assert!(rt; matches!(outcome.status, 0 | 7), "fault at {number}");
-        assert!(rt;
-            are_good(rt.alloc(), &outcome.sessions)?,
-            "fault at {number}"
-        );
+        let is_well = runs_well(rt.alloc(), &failure_at(number))?;
+        assert!(rt; is_well, "fault at {number}");
     }
     Ok(())
 }

@@ -45,7 +45,7 @@ const TWENTY_TWOS: [u8; 64] = [0x22; 64];
 /// A waiting post that is seen; a store to a line under way; a carried line; a page that leaves; a mark of a page in
 /// flight; as many born pages as may be; a flush that collects; a collection by turns; a failed program; and a counter
 /// that comes to its threshold.
-pub const ROWS: [Row; 10] = [
+pub static ROWS: [Row; 10] = [
     Row {
         geometry: USUAL,
         fault: Fault::Nothing,
@@ -260,7 +260,7 @@ pub struct Loss {
     pub left: (u32, u8, u8),
 }
 
-pub const LOSSES: [Loss; 4] = [
+pub static LOSSES: [Loss; 4] = [
     Loss {
         verified: false,
         arrive: 1,

@@ -137,7 +137,7 @@ const LAID: [Step; 12] = [
     Step::Read(0, true, [6, 4, 5, 7]),
 ];
 
-pub const ROWS: [Row; 4] = [
+pub static ROWS: [Row; 4] = [
     Row {
         geometry: USUAL,
         steps: &SEEN,

@@ -76,8 +76,8 @@ impl Lost {
         }
     }
 
-    /// Mounts it, and again where that is refused: what each came to, and the parts.
-    pub fn mount(self, alloc: Global) -> Option<(Came, Option<Mounted<SimFlash>>, Option<Lost>)> {
+    /// Mounts it: what that came to, and what is mounted or what can be mounted again.
+    pub fn mount(self, alloc: Global) -> Option<(Came, Result<Mounted<SimFlash>, Lost>)> {
         let Lost {
             nv,
             flash,
@@ -89,7 +89,7 @@ impl Lost {
         match mount(alloc, nv, flash, &geometry) {
             Ok(mounted) => {
                 let (operations, on) = made(mounted.store.flash());
-                Some(((operations, on, None), Some(mounted), None))
+                Some(((operations, on, None), Ok(mounted)))
             }
             Err(MountBack { nv, flash, stop }) => {
                 let (operations, on) = made(&flash);
@@ -98,7 +98,7 @@ impl Lost {
                     flash,
                     geometry,
                 };
-                Some(((operations, on, Some(stop)), None, Some(lost)))
+                Some(((operations, on, Some(stop)), Err(lost)))
             }
         }
     }
