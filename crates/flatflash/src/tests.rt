@@ -206,19 +206,19 @@ fn lines_before(alloc: Global, line: usize) -> Result<Vec<u8>, AllocError> {
     Ok(text)
 }
 
-// What a schedule comes to in which the write of a line fails, counted from 0.
-fn cut_off(alloc: Global, input: &[u8], line: usize) -> Result<Came, NoMemory> {
-    call_with(alloc, "flatflash schedule", input, 0, line as u64 + 1)
+// What a schedule comes to in which this write fails.
+fn cut_off(alloc: Global, input: &[u8], failing_write: u64) -> Result<Came, NoMemory> {
+    call_with(alloc, "flatflash schedule", input, 0, failing_write)
 }
 
 #[test]
 fn each_failing_write_leaves_a_prefix(rt: HostRuntime) -> Result<(), Fail> {
     for line in 0..FIRST_LINES.len() {
-        let came = cut_off(rt.alloc(), FIRST, line)?;
         let text = lines_before(rt.alloc(), line)?;
+        let came = cut_off(rt.alloc(), FIRST, line as u64 + 1)?;
         assert_eq!(rt; came.told(), (5, 1, text.as_slice()), "at line {line}");
     }
-    let came = cut_off(rt.alloc(), b"", 0)?;
+    let came = cut_off(rt.alloc(), b"", 1)?;
     assert_eq!(rt; came.told(), (5, 0, b"".as_slice()));
     Ok(())
 }

@@ -1,5 +1,5 @@
 // Calls and background turns over a simulated flash, by their answers and counts.
-ghost use Rattle.std.specs.Prelude.{IfOk};
+ghost use Rattle.std.specs.Prelude.{◌≡◌, IfOk};
 ghost use Rattle.ff_base.specs.Geometry.{IsWithinLimits};
 
 mod rows;
@@ -7,7 +7,7 @@ mod rows;
 use super::plans::{Fault, USUAL, plan_of};
 use super::rules::{ByDirty, ByHits};
 use ff_base::{Caller, Geometry, PageNo};
-use ff_cache::Cache;
+use ff_cache::{Cache, Nv};
 use ff_core::{Back, Core, Driven, Lost, Record, Room};
 use ff_evict::Picker;
 use ff_flash::{Flash, SimFlash};
@@ -130,14 +130,19 @@ fn first_unlike(core: &mut TestCore, steps: &[Step]) -> Option<usize> {
 }
 
 // The first step that is answered otherwise, and the counts.
-fn played(mut core: TestCore, steps: &[Step]) -> (Option<usize>, Counts) {
-    let unlike = first_unlike(&mut core, steps);
+fn play(core: &mut TestCore, steps: &[Step]) -> (Option<usize>, Counts) {
+    let unlike = first_unlike(core, steps);
     (unlike, core.counts())
 }
 
+/// Lets a core go.
+pub fn discard(_core: TestCore) {}
+
 fn made_of(alloc: Global, row: &Row) -> Result<(Option<usize>, Counts), Fail> {
-    let core = core_of(alloc, row.geometry, row.fault)?;
-    Ok(played(core, row.steps))
+    let mut core = core_of(alloc, row.geometry, row.fault)?;
+    let made = play(&mut core, row.steps);
+    discard(core);
+    Ok(made)
 }
 
 #[test]
@@ -204,13 +209,20 @@ fn first_bytes(cache: &Cache) -> (u8, u8) {
     }
 }
 
+// What the battery keeps of a session, and how many entries are kept.
+fn kept_of(lost: Lost<SimFlash, ByHits, ByDirty>) -> (Nv, u32)
+    ensures { result.0 ≡ lost.nv }
+{
+    let kept = lost.account.kept();
+    (lost.nv, kept)
+}
+
 // How many entries are kept, and the first two bytes of page 0 in what the battery kept.
 fn left_by(alloc: Global, core: TestCore, arrive: u32) -> Result<(u32, u8, u8), Fail> {
     core.known();
     let geometry = *core.geometry();
-    let lost = core.power(arrive);
-    let kept = lost.account.kept();
-    match Cache::from_nv(alloc, lost.nv, &geometry) {
+    let (nv, kept) = kept_of(core.power(arrive));
+    match Cache::from_nv(alloc, nv, &geometry) {
         Ok(parts) => {
             let (first, second) = first_bytes(&parts.cache);
             Ok((kept, first, second))
@@ -253,16 +265,18 @@ fn cut_power(core: &mut TestCore) {
 }
 
 // What a load comes to before whose second step the power is cut, what it came to then, and after one more cut.
-fn cut_twice(mut core: TestCore) -> (Option<Driven>, [(u64, u32, bool); 2]) {
-    let driven = load_until(&mut core, Some(1));
-    let first = came_to(&core);
-    cut_power(&mut core);
-    (driven, [first, came_to(&core)])
+fn cut_twice(core: &mut TestCore) -> (Option<Driven>, [(u64, u32, bool); 2]) {
+    let driven = load_until(core, Some(1));
+    let first = came_to(core);
+    cut_power(core);
+    (driven, [first, came_to(core)])
 }
 
 #[test]
 fn the_power_is_cut_before_an_event(rt: HostRuntime) -> Result<(), Fail> {
-    let core = core_of(rt.alloc(), USUAL, Fault::Nothing)?;
-    assert_eq!(rt; cut_twice(core), (Some(Driven::Off), [(1, 0, false); 2]));
+    let mut core = core_of(rt.alloc(), USUAL, Fault::Nothing)?;
+    let came_to = cut_twice(&mut core);
+    discard(core);
+    assert_eq!(rt; came_to, (Some(Driven::Off), [(1, 0, false); 2]));
     Ok(())
 }

@@ -170,7 +170,7 @@ fn an_image_has_what_is_held_or_stops_at_a_read(rt: HostRuntime) -> Result<(), F
 }
 
 // The operations that were made, and whether page 3 is mapped.
-fn mapped_by(mounted: &Mounted<SimFlash>) -> (u64, bool) {
+fn mapped_by(mounted: Mounted<SimFlash>) -> (u64, bool) {
     let store = &mounted.store;
     (store.flash().operation_count(), store.is_mapped(PageNo(3)))
 }
@@ -178,14 +178,14 @@ fn mapped_by(mounted: &Mounted<SimFlash>) -> (u64, bool) {
 // What the last mount made: the first, or where that was refused, the second.
 fn last_made(alloc: Global, first: Result<Mounted<SimFlash>, Lost>) -> Option<(u64, bool)> {
     match first {
-        Ok(mounted) => Some(mapped_by(&mounted)),
+        Ok(mounted) => Some(mapped_by(mounted)),
         Err(lost) => second_made(alloc, lost),
     }
 }
 
 fn second_made(alloc: Global, lost: Lost) -> Option<(u64, bool)> {
     match lost.mount(alloc)? {
-        (_, Ok(mounted)) => Some(mapped_by(&mounted)),
+        (_, Ok(mounted)) => Some(mapped_by(mounted)),
         _ => None,
     }
 }

@@ -7,7 +7,7 @@ ghost use Rattle.ff_mount.specs.Sound.{AreSound};
 ghost use Rattle.ff_sessions.specs.Remounts.{HasRemounted};
 ghost use Rattle.ff_trace.specs.Within.{AreWithin};
 
-use super::cores::{TestCore, checked, core_of};
+use super::cores::{TestCore, checked, core_of, discard};
 use super::plans::{Fault, USUAL};
 use super::rules::{ByDirty, ByHits};
 use ff_base::{Caller, Geometry};
@@ -139,6 +139,7 @@ fn nothing_is_done_at_the_last_event_number(rt: HostRuntime) -> Result<(), Fail>
     assert_eq!(rt; spare(&core).1, 1);
     assert_eq!(rt; promote_turn(&mut core), Some(Back::Spent));
     assert_eq!(rt; core.events(), LAST_EVENT);
+    discard(core);
     Ok(())
 }
 

@@ -17,8 +17,8 @@ fn a_source_fails_at_its_second_read(rt: HostRuntime) -> Result<(), Fail> {
         (Ok(0), [5, 4]),
     ];
     for (answer, held) in wanted {
-        assert_eq!(rt; read_from(&mut source, &mut into), answer);
-        assert_eq!(rt; into, held);
+        let found = (read_from(&mut source, &mut into), into);
+        assert_eq!(rt; found, (answer, held));
     }
     assert_eq!(rt; source.faults(), 1);
     Ok(())
@@ -40,11 +40,21 @@ fn a_sink_fails_at_its_second_write_and_where_a_piece_does_not_fit(
     let fail = vec![in rt.alloc(); 2]?;
     let mut sink = MemorySink::new(rt.alloc(), 4, fail)?;
     for (piece, answer, written) in WRITES.iter() {
-        assert_eq!(rt; write_to(&mut sink, piece), *answer);
-        assert_eq!(rt; sink.written(), *written);
+        let found = (write_to(&mut sink, piece), sink.written());
+        assert_eq!(rt; found, (*answer, *written));
     }
     assert_eq!(rt; sink.faults(), 2);
     Ok(())
+}
+
+type TwoReads = (Result<usize, Failed>, [u8; 2], Result<usize, Failed>);
+
+// Two reads over fours, and what the first left of them.
+fn two_reads(source: &mut impl Source) -> TwoReads {
+    let mut into = [4; 2];
+    let first = read_from(source, &mut into);
+    let held = into;
+    (first, held, read_from(source, &mut into))
 }
 
 #[test]
@@ -60,12 +70,19 @@ fn a_stream_that_fails_is_a_failed_read(rt: HostRuntime) -> Result<(), Fail> {
             failures,
         };
         let mut source = HostSource::new(rt.alloc(), stream)?;
-        let mut into = [4; 2];
-        assert_eq!(rt; read_from(&mut source, &mut into), answer);
-        assert_eq!(rt; into, held);
-        assert_eq!(rt; read_from(&mut source, &mut into), Ok(1));
+        assert_eq!(rt; two_reads(&mut source), (answer, held, Ok(1)));
     }
     Ok(())
+}
+
+// Two writes and two flushes.
+fn writes(sink: &mut HostSink<Stream>, long: &[u8]) -> [Result<(), Failed>; 4] {
+    [
+        write_to(sink, b"a line\n"),
+        write_to(sink, long),
+        sink.flush(),
+        sink.flush(),
+    ]
 }
 
 #[test]
@@ -82,10 +99,10 @@ fn a_stream_that_fails_is_a_failed_write(rt: HostRuntime) -> Result<(), Fail> {
             failures,
         };
         let mut sink = HostSink::new(rt.alloc(), stream)?;
-        assert_eq!(rt; write_to(&mut sink, b"a line\n"), Ok(()));
-        assert_eq!(rt; write_to(&mut sink, &long), written);
-        assert_eq!(rt; sink.flush(), flushed);
-        assert_eq!(rt; sink.flush(), Ok(()));
+        assert_eq!(rt;
+            writes(&mut sink, &long),
+            [Ok(()), written, flushed, Ok(())]
+        );
     }
     Ok(())
 }
@@ -95,8 +112,8 @@ fn standard_streams_are_read_and_written(rt: HostRuntime) -> Result<(), Fail> {
     let mut source = HostSource::new(rt.alloc(), rt.stdin())?;
     assert_eq!(rt; read_from(&mut source, &mut []), Ok(0));
     let mut sink = HostSink::new(rt.alloc(), rt.stdout())?;
-    assert_eq!(rt; write_to(&mut sink, b"a line\n"), Ok(()));
-    assert_eq!(rt; sink.flush(), Ok(()));
+    let written = (write_to(&mut sink, b"a line\n"), sink.flush());
+    assert_eq!(rt; written, (Ok(()), Ok(())));
     Ok(())
 }
 

@@ -170,11 +170,10 @@ fn a_new_image_holds_nothing(rt: HostRuntime) -> Result<(), Fail> {
 
 #[test]
 fn an_image_holds_pages_and_marks(rt: HostRuntime) -> Result<(), Fail> {
-    let image = two_pages(rt.alloc())?;
-    let copy = image.copy(rt.alloc())?;
-    assert_eq!(rt; copy.pages(), 2);
-    assert_eq!(rt; told(&copy, 0), Some((false, 5, None)));
-    assert_eq!(rt; told(&copy, 1), Some((true, 0, Some([7; 64]))));
+    let copy = two_pages(rt.alloc())?.copy(rt.alloc())?;
+    let found = (copy.pages(), told(&copy, 0), told(&copy, 1));
+    let second = (true, 0, Some([7; 64]));
+    assert_eq!(rt; found, (2, Some((false, 5, None)), Some(second)));
     assert_eq!(rt; copy.byte(4096 + 64), 7);
     Ok(())
 }

@@ -2,6 +2,7 @@
 ghost use Rattle.std.specs.Prelude.{◌≤◌, length};
 
 use super::call;
+use ff_base::NoMemory;
 use ff_io::MemorySink;
 use ff_report::Line;
 use ff_sessions::Session;
@@ -105,27 +106,41 @@ fn has(text: &[u8], part: &[u8]) -> bool {
     !part.is_empty() && text.windows(part.len()).any(|window| window == part)
 }
 
-fn device_lines(sessions: &[Session], session: u32) -> Option<u64> {
-    let session = sessions.get(session as usize)?;
+/// Whether a text has the end of the text of a session.
+fn has_ending(alloc: Global, text: &[u8], session: u32, kept: u32) -> Result<bool, AllocError> {
+    let ending = ending(alloc, session.min(2), kept)?;
+    Ok(has(text, &ending))
+}
+
+fn device_lines(sessions: &[Session], session: usize) -> Option<u64> {
+    let session = sessions.get(session)?;
     Some(session.account.counts().device)
+}
+
+/// The status of the log's run, and the lines that the device served in each of its three sessions, behind which there is
+/// none.
+fn run(alloc: Global, sink: &mut MemorySink) -> Result<(u8, [Option<u64>; 4]), NoMemory> {
+    let input = input(alloc)?;
+    let outcome = call(alloc, "flatflash schedule", &input, 0, sink)?;
+    let sessions = outcome.sessions.as_slice();
+    let lines = [
+        device_lines(sessions, 0),
+        device_lines(sessions, 1),
+        device_lines(sessions, 2),
+        device_lines(sessions, 3),
+    ];
+    Ok((outcome.status, lines))
 }
 
 #[test]
 fn a_log_finds_its_records_after_two_losses_of_power(rt: HostRuntime) -> Result<(), Fail> {
     let alloc = rt.alloc();
     let mut sink = MemorySink::new(alloc, 200_000, Vec::new(alloc))?;
-    let outcome = call(alloc, "flatflash schedule", &input(alloc)?, 0, &mut sink)?;
-    assert_eq!(rt; (outcome.status, outcome.sessions.len()), (0, 3));
-    let endings = [
-        ending(alloc, 0, 115)?,
-        ending(alloc, 1, 51)?,
-        ending(alloc, 2, 50)?,
-    ];
-    for ending in &endings {
-        assert!(rt; has(sink.written(), ending));
-    }
-    for (session, device) in [(0, 105), (1, 50), (2, 45)] {
-        assert_eq!(rt; device_lines(&outcome.sessions, session), Some(device));
+    let lines = [Some(105), Some(50), Some(45), None];
+    assert_eq!(rt; run(alloc, &mut sink)?, (0, lines));
+    for (session, kept) in [(0, 115), (1, 51), (2, 50)] {
+        let found = has_ending(alloc, sink.written(), session, kept)?;
+        assert!(rt; found, "session {session}");
     }
     Ok(())
 }
