@@ -3,7 +3,7 @@ use Rattle.std.proofs.Common.{◌≡◌, ◌<◌, ◌≤◌, ◌+◌, ◌-◌, �
 use Rattle.std.specs.Prelude.{IfSome}
 use Rattle.std.specs.Option.{option_or}
 use Rattle.std.proofs.Math.Seq.{take-length}
-use Rattle.std.proofs.lemmas.List.{map_more}
+use Rattle.std.proofs.lemmas.List.{length-map, length-take-le, map_more}
 use Rattle.ff_flash.specs.Cells.{Cell, cell_at, cell_probe, erased}
 use Rattle.ff_flash.specs.FlashState.{FlashState}
 use Rattle.ff_flash.specs.Plans.{Planned, due_stop}
@@ -99,7 +99,7 @@ pub planned_here : (old now : FlashState) (count places : ℕ) (stop : FlashStop
 planned_here old now count places stop below went none is =
     planned_far old.plan old.operations count places stop below (planned_more old now count (Some stop) went none is)
 
-pub planned_none : (told : Option Planned) (made : ℕ) → IfSome told (λ plan. None ≡ first_stop plan made 0)
+planned_none : (told : Option Planned) (made : ℕ) → IfSome told (λ plan. None ≡ first_stop plan made 0)
 planned_none None made = tt
 planned_none (Some plan) made = refl
 
@@ -109,6 +109,27 @@ pub record IsProbing (old now : FlashState) (count places capacity : ℕ) (probe
   pub planned : IfSome old.plan (λ plan. None ≡ first_stop plan old.operations count)
   pub told : probes ≡ probes_of (take count old.cells)
   pub room : places ≤ capacity
+
+-- before the first probe
+pub probing_none : (old : FlashState) (places capacity : ℕ) (probes : List Probe) → probes ≡ [] → places ≤ capacity
+    → IsProbing old old 0 places capacity probes
+probing_none old places capacity probes none room = record {
+  went = ap (λ (n : ℕ). record old { operations = n })
+      (let e : old.operations ≡ old.operations + 0 = omega arith in e);
+  planned = planned_none old.plan old.operations;
+  told = none;
+  room = room;
+}
+
+-- there is room for one more
+pub room_for : (old now : FlashState) (count places capacity : ℕ) (probes : List Probe) → length old.cells ≡ places
+    → count < places → IsProbing old now count places capacity probes → length probes < capacity
+room_for old now count places capacity probes size below way =
+    let told = ap (λ (xs : List Probe). length xs) way.told in
+    let mapped = length-map (take count old.cells) cell_probe in
+    let taken = length-take-le count old.cells (omega arith) in
+    let room = way.room in
+    omega arith
 
 -- one probe more
 pub under_way_more : (old now new : FlashState) (count places capacity more : ℕ) (probes after : List Probe)

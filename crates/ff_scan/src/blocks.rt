@@ -24,7 +24,6 @@ pub fn place_all(space: &mut BlockTable, probes: &[Probe], geometry: &Geometry, 
     }
 }
 
-#[tactic(auto, using(crate::proofs::Placing::placed_spare, crate::proofs::Placing::placed_other))]
 fn place_one(
     space: &mut BlockTable,
     probes: &[Probe],

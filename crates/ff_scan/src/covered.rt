@@ -27,7 +27,6 @@ pub fn least_covered(probes: &[Probe], geometry: &Geometry, tops: &[Top]) -> Opt
     None
 }
 
-#[tactic(auto, using(crate::proofs::Covering::block_end, crate::proofs::Covering::block_of, crate::proofs::Covering::covered_of))]
 fn is_covered(probes: &[Probe], geometry: &Geometry, tops: &[Top], block: u32) -> bool
     requires limits { IsWithinLimits geometry.now }
     requires probes { AreProbes geometry.now probes.now }

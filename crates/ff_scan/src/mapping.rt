@@ -58,7 +58,6 @@ fn map_place(
     }
 }
 
-#[tactic(auto, using(crate::proofs::Mappings::free_here, crate::proofs::Mappings::not_waiting, crate::proofs::Mappings::has_room, crate::proofs::Mappings::block_here, crate::proofs::Mappings::mapped_next))]
 fn map_found(
     space: &mut BlockTable,
     places: &mut PageMap,

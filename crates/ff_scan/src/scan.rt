@@ -126,7 +126,6 @@ impl Scan {
 }
 
 // Records in an empty table and an empty map what the probes tell, and finds the spare block.
-#[tactic(auto, using(crate::proofs::Newest::tops_none, crate::proofs::Placing::placed_none, crate::proofs::Mappings::mapped_none, crate::proofs::Mappings::scan_of))]
 pub(crate) fn find(
     probes: &[Probe],
     geometry: &Geometry,

@@ -1,5 +1,5 @@
 // What is found by the probes of three blocks of three pages, and where the probes of a flash stop.
-ghost use Rattle.std.specs.Prelude.{◌≡◌, ◌<◌, ◌≤◌, ◌^◌, length, IfOk, IsTrue};
+ghost use Rattle.std.specs.Prelude.{◌≡◌, ◌*◌, ◌<◌, ◌≤◌, ◌^◌, true, false, length, IfOk, IsTrue};
 ghost use Rattle.ff_base.specs.Geometry.{IsWithinLimits};
 ghost use Rattle.ff_flash.specs.Plans.{IsPlan, planned_of};
 ghost use Rattle.ff_flash.specs.declared.flash.Probe.TheVariants.{Sealed};
@@ -78,23 +78,62 @@ fn has_covered(probes: &[Probe], geometry: &Geometry, tops: &[Top]) -> bool
     }
 }
 
-// What is found by these probes.
-fn found(rt: &impl Abort, alloc: Global, probes: &[Probe]) -> Result<Found, Fail> {
+fn sizes(rt: &impl Abort) -> Geometry
+    ensures { IsWithinLimits result }
+{
     let geometry = small();
     geometry.check().expect(rt, "a geometry out of bounds");
-    assert!(rt; are_probes(probes, &geometry));
+    geometry
+}
+
+fn find_covered(probes: &[Probe], geometry: &Geometry, tops: &mut [Top]) -> bool
+    requires limits { IsWithinLimits geometry.now }
+    requires probes { AreProbes geometry.now probes.now }
+    requires pages { length tops.old ≡ geometry.now.pages }
+    requires none { AreTops geometry.now.per_block probes.now 0 tops.old }
+    ensures { IsTrue result → NoBlock (IsCoveredBlock geometry.now probes.now) → ⊥ }
+{
+    find_tops(probes, geometry, tops);
+    has_covered(probes, geometry, tops)
+}
+
+fn check_covered(
+    rt: &impl Abort,
+    alloc: Global,
+    probes: &[Probe],
+    geometry: &Geometry,
+) -> Result<(), Fail>
+    requires limits { IsWithinLimits geometry.now }
+    requires probes { AreProbes geometry.now probes.now }
+    ensures { IfOk result (λ _. NoBlock (IsCoveredBlock geometry.now probes.now) → ⊥) }
+{
     let mut tops = blank_tops(alloc, geometry.pages)?;
-    find_tops(probes, &geometry, &mut tops);
-    assert!(rt; has_covered(probes, &geometry, &tops));
+    assert!(rt; find_covered(probes, geometry, &mut tops));
+    Ok(())
+}
+
+fn find_in(alloc: Global, probes: &[Probe], geometry: &Geometry) -> Result<Found, NoMemory>
+    requires limits { IsWithinLimits geometry.now }
+    requires probes { AreProbes geometry.now probes.now }
+    requires covered { NoBlock (IsCoveredBlock geometry.now probes.now) → ⊥ }
+{
     let mut blank = blank_tops(alloc, geometry.pages)?;
-    let mut space = BlockTable::new(alloc, &geometry)?;
-    let mut places = PageMap::new(alloc, &geometry)?;
-    let spare = find(probes, &geometry, &mut blank, &mut space, &mut places);
+    let mut space = BlockTable::new(alloc, geometry)?;
+    let mut places = PageMap::new(alloc, geometry)?;
+    let spare = find(probes, geometry, &mut blank, &mut space, &mut places);
     Ok(Found {
         space,
         places,
         spare,
     })
+}
+
+// What is found by these probes.
+fn found(rt: &impl Abort, alloc: Global, probes: &[Probe]) -> Result<Found, Fail> {
+    let geometry = sizes(rt);
+    assert!(rt; are_probes(probes, &geometry));
+    check_covered(rt, alloc, probes, &geometry)?;
+    Ok(find_in(alloc, probes, &geometry)?)
 }
 
 // The spare block, where the next page is programmed, how many blocks are erased, the next version, and the place and
@@ -106,16 +145,19 @@ fn mapping(found: &Found, page: u32) -> Option<(u32, u64)> {
     Some((at.0, found.places.version(PageNo(page))?))
 }
 
-fn check(rt: &impl Abort, alloc: Global, probes: &[Probe], wanted: Wanted) -> Result<(), Fail> {
-    let found = found(rt, alloc, probes)?;
-    let told = (
+fn told(found: &Found) -> Wanted {
+    (
         found.spare.0,
         found.space.place(),
         found.space.erased(),
         found.places.next_version(),
-        [mapping(&found, 0), mapping(&found, 1)],
-    );
-    assert_eq!(rt; told, wanted);
+        [mapping(found, 0), mapping(found, 1)],
+    )
+}
+
+fn check(rt: &impl Abort, alloc: Global, probes: &[Probe], wanted: Wanted) -> Result<(), Fail> {
+    let found = found(rt, alloc, probes)?;
+    assert_eq!(rt; told(&found), wanted);
     Ok(())
 }
 
@@ -189,22 +231,38 @@ fn plan_of(alloc: Global, way: Way) -> Result<Plan, NoMemory>
     }
 }
 
-// How the probes of an erased flash end, and how many were made.
-fn probed(rt: &impl Abort, alloc: Global, way: Way) -> Result<(Result<(), FlashStop>, u64), Fail> {
-    let geometry = small();
-    geometry.check().expect(rt, "a geometry out of bounds");
-    let mut flash = SimFlash::new(alloc, &geometry, plan_of(alloc, way)?)?;
-    let mut scan = Scan::new(alloc, &geometry)?;
-    let result = scan.probe_all(&mut flash);
+// How the probes of a flash end, and how many were made.
+type Ended = (Result<(), FlashStop>, u64);
+
+fn probe_in(alloc: Global, geometry: &Geometry, flash: &mut SimFlash) -> Result<Ended, NoMemory>
+    requires limits { IsWithinLimits geometry.now }
+    requires on { flash.old.on ≡ true }
+    requires uncut { flash.old.cut ≡ false }
+    requires places { length flash.old.cells ≡ geometry.now.blocks * geometry.now.per_block }
+    requires life { flash.old.operations ≤ 2 ^ 62 }
+{
+    let mut scan = Scan::new(alloc, geometry)?;
+    let result = scan.probe_all(flash);
     Ok((result, flash.operation_count()))
+}
+
+fn probed(alloc: Global, geometry: &Geometry, way: Way) -> Result<Ended, NoMemory>
+    requires { IsWithinLimits geometry.now }
+{
+    let mut flash = SimFlash::new(alloc, geometry, plan_of(alloc, way)?)?;
+    probe_in(alloc, geometry, &mut flash)
+}
+
+fn check_probed(rt: &impl Abort, alloc: Global, way: Way, wanted: Ended) -> Result<(), Fail> {
+    let geometry = sizes(rt);
+    assert_eq!(rt; probed(alloc, &geometry, way)?, wanted);
+    Ok(())
 }
 
 #[test]
 fn probes_end_at_the_first_that_stops(rt: HostRuntime) -> Result<(), Fail> {
     let alloc = rt.alloc();
-    assert_eq!(rt; probed(&rt, alloc, Way::Works)?, (Ok(()), 9));
-    let failed = Err(FlashStop::Failed);
-    assert_eq!(rt; probed(&rt, alloc, Way::Fails)?, (failed, 4));
-    assert_eq!(rt; probed(&rt, alloc, Way::Cut)?, (Err(FlashStop::Off), 9));
-    Ok(())
+    check_probed(&rt, alloc, Way::Works, (Ok(()), 9))?;
+    check_probed(&rt, alloc, Way::Fails, (Err(FlashStop::Failed), 4))?;
+    check_probed(&rt, alloc, Way::Cut, (Err(FlashStop::Off), 9))
 }

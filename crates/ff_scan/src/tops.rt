@@ -64,7 +64,6 @@ pub fn find_tops(probes: &[Probe], geometry: &Geometry, tops: &mut [Top])
     }
 }
 
-#[tactic(auto, using(crate::proofs::Newest::tops_left, crate::proofs::Newest::tops_more))]
 fn note_place(probes: &[Probe], geometry: &Geometry, tops: &mut [Top], place: usize)
     requires limits { IsWithinLimits geometry.now }
     requires probes { AreProbes geometry.now probes.now }
