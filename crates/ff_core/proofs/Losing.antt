@@ -53,12 +53,11 @@ lost_sound core arrive sound device =
     (line_below (parts_of core.hierarchy.device) page line)) sound device (λ page line. refl) in
     record_sound core (kept_after core arrive) sound keeps.within
 
--- the account of a session whose power went off
-pub lost_account : {T E : Type 0} (core : CoreView T E) (kept : ℕ) → IsCoreSound core → IsStoreSound core.hierarchy.device.store
+account_off : {T E : Type 0} (core : CoreView T E) (kept : ℕ) → IsCoreSound core → IsStoreSound core.hierarchy.device.store
     → IsPolicySound core.hierarchy.policy
     → IsAccountOf core.geometry core.hierarchy.policy.tuner.floor (start_of core) (record_of core kept)
     (powered_off (flash_under core.hierarchy))
-lost_account core kept sound store policy =
+account_off core kept sound store policy =
     let flash = flash_under core.hierarchy in
     let account = account_of core kept sound store policy in
     let operations = off_same (λ (f : FlashState). f.operations) flash refl in
@@ -78,6 +77,17 @@ lost_account core kept sound store policy =
       met = let met = account.met in omega (arith, met, faults);
       told = λ tells. account.told (rw plan at tells);
     }
+
+-- the account of a session whose power went off
+pub lost_account : {T E : Type 0} (core : CoreView T E) (kept : ℕ) (account : RecordView) (flash : FlashState) → IsCoreSound core
+    → IsStoreSound core.hierarchy.device.store → IsPolicySound core.hierarchy.policy → account ≡ record_of core kept
+    → flash ≡ powered_off (flash_under core.hierarchy)
+    → IsAccountOf core.geometry core.hierarchy.policy.tuner.floor (start_of core) account flash
+lost_account core kept account flash sound store policy account_is flash_is =
+    let floor = core.hierarchy.policy.tuner.floor in
+    subst (λ (a : RecordView). IsAccountOf core.geometry floor (start_of core) a flash) (sym account_is)
+    (subst (λ (f : FlashState). IsAccountOf core.geometry floor (start_of core) (record_of core kept) f) (sym flash_is)
+    (account_off core kept sound store policy))
 
 content_marks : (pages : ℕ) (nv : NvView) (flash : FlashState) → (held_content pages nv flash.cells).marks ≡ nv.marks
 unfolding held_content

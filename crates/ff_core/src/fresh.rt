@@ -8,6 +8,7 @@ ghost use Rattle.ff_table.specs.Table.{fresh_table};
 ghost use Rattle.ff_gc.specs.FlashCounts.{no_counts};
 ghost use Rattle.ff_model.specs.Legal.{opening_of};
 ghost use Rattle.ff_core.specs.Fresh.{IsFreshFlash, fresh_core, fresh_device};
+ghost use Rattle.ff_policy.specs.Policy.{fresh_policy};
 ghost use Rattle.ff_core.specs.EventTally.{no_tally};
 
 use crate::core_state::{Core, Room};
@@ -123,30 +124,82 @@ fn make_device<F: Flash>(alloc: Global, flash: F, geometry: &Geometry) -> Result
     Ok(Device::over(store, buffers.cache, buffers.window, buffers.page))
 }
 
+// What a session is made of.
+#[derive(Drop)]
+struct Made<F: Flash> {
+    books: Books,
+    device: Device<F>,
+}
+
+// The books and the device of a session. The error is want of memory, and hands the flash back.
+fn make<F: Flash>(alloc: Global, flash: F, geometry: &Geometry, room: Room) -> Result<Made<F>, F>
+    requires limits { IsWithinLimits geometry.now }
+    requires flash { IsFreshFlash geometry.now (F.state flash) }
+    ensures ok { IfOk result (λ made. made ≡ record {
+      books = record {
+        base = empty_content geometry.now.pages;
+        history = record { entries = []; room = room.calls };
+        log = record { turns = []; room = room.turns };
+        memory = fresh_memory geometry.now.frames geometry.now.pages
+            (replicate geometry.now.pages 0) geometry.now.plb (capacity_of geometry.now);
+      };
+      device = fresh_device (F.state flash) geometry.now;
+    }) }
+    ensures err { IfErr result (λ back. back ≡ flash) }
+{
+    match make_books(alloc, geometry, room) {
+        Ok(books) => make_over(alloc, flash, geometry, books),
+        Err(_) => Err(flash),
+    }
+}
+
+fn make_over<F: Flash>(
+    alloc: Global,
+    flash: F,
+    geometry: &Geometry,
+    books: Books,
+) -> Result<Made<F>, F>
+    requires limits { IsWithinLimits geometry.now }
+    requires flash { IsFreshFlash geometry.now (F.state flash) }
+    ensures ok { IfOk result (λ made. made ≡ record {
+      books = books;
+      device = fresh_device (F.state flash) geometry.now;
+    }) }
+    ensures err { IfErr result (λ back. back ≡ flash) }
+{
+    match make_device(alloc, flash, geometry) {
+        Ok(device) => Ok(Made { books, device }),
+        Err(flash) => {
+            drop(books);
+            Err(flash)
+        }
+    }
+}
+
 // The parts of a session.
 fn assemble<F: Flash, T: Tune, E: Pick>(
-    books: Books,
+    made: Made<F>,
     policy: Policy<T>,
-    device: Device<F>,
     picker: Picker<E>,
     geometry: Geometry,
 ) -> State<F, T, E>
     ensures { result ≡ record {
-      opening = opening_of books.base geometry 0 device.store.world.flash.faults;
+      opening = opening_of made.books.base geometry 0 made.device.store.world.flash.faults;
       geometry = geometry;
       from_counts = no_counts;
-      history = books.history;
+      history = made.books.history;
       events = 0;
-      log = books.log;
+      log = made.books.log;
       tally = no_tally;
       hierarchy = record {
-        memory = books.memory;
-        device = device;
+        memory = made.books.memory;
+        device = made.device;
         policy = policy;
         evictor = record { hand = 0; picker = picker };
       };
     } }
 {
+    let Made { books, device } = made;
     let from_faults = device.store().flash().fault_count();
     State {
         base: books.base,
@@ -182,15 +235,8 @@ pub fn fresh_state<F: Flash, T: Tune, E: Pick>(
         (λ state. state ≡ fresh_core (F.state flash) geometry tuner picker room)
         (λ back. back ≡ record { flash = flash; tuner = tuner; picker = picker }) }
 {
-    let Ok(books) = make_books(alloc, &geometry, room) else {
-        return Err(FreshBack {
-            flash,
-            tuner,
-            picker,
-        });
-    };
     match Policy::new(alloc, geometry.pages, tuner) {
-        Ok(policy) => fresh_over(alloc, flash, geometry, books, policy, picker),
+        Ok(policy) => fresh_with(alloc, flash, geometry, policy, picker, room),
         Err(tuner) => Err(FreshBack {
             flash,
             tuner,
@@ -199,36 +245,23 @@ pub fn fresh_state<F: Flash, T: Tune, E: Pick>(
     }
 }
 
-fn fresh_over<F: Flash, T: Tune, E: Pick>(
+fn fresh_with<F: Flash, T: Tune, E: Pick>(
     alloc: Global,
     flash: F,
     geometry: Geometry,
-    books: Books,
     policy: Policy<T>,
     picker: Picker<E>,
+    room: Room,
 ) -> Result<State<F, T, E>, FreshBack<F, T, E>>
     requires limits { IsWithinLimits geometry }
     requires flash { IsFreshFlash geometry (F.state flash) }
-    ensures ok { IfOk result (λ state. state ≡ record {
-      opening = opening_of books.base geometry 0 (F.state flash).faults;
-      geometry = geometry;
-      from_counts = no_counts;
-      history = books.history;
-      events = 0;
-      log = books.log;
-      tally = no_tally;
-      hierarchy = record {
-        memory = books.memory;
-        device = fresh_device (F.state flash) geometry;
-        policy = policy;
-        evictor = record { hand = 0; picker = picker };
-      };
-    }) }
-    ensures err { IfErr result (λ back. back
-        ≡ record { flash = flash; tuner = policy.tuner; picker = picker }) }
+    requires policy { policy ≡ fresh_policy geometry.pages policy.tuner }
+    ensures { MatchResult result
+        (λ state. state ≡ fresh_core (F.state flash) geometry policy.tuner picker room)
+        (λ back. back ≡ record { flash = flash; tuner = policy.tuner; picker = picker }) }
 {
-    match make_device(alloc, flash, &geometry) {
-        Ok(device) => Ok(assemble(books, policy, device, picker, geometry)),
+    match make(alloc, flash, &geometry, room) {
+        Ok(made) => Ok(assemble(made, policy, picker, geometry)),
         Err(flash) => Err(FreshBack {
             flash,
             tuner: policy.into_tuner(),

@@ -6,7 +6,8 @@ ghost use Rattle.ff_model.specs.Image.{held_page};
 ghost use Rattle.ff_model.specs.Legal.{opening_of};
 ghost use Rattle.ff_mount.specs.Over.{IsCacheOver};
 ghost use Rattle.ff_table.specs.Table.{with_born};
-ghost use Rattle.ff_core.specs.Resume.{CanResume, pages_held, resumed_core, resumed_device, resumed_table};
+ghost use Rattle.ff_policy.specs.Policy.{fresh_policy};
+ghost use Rattle.ff_core.specs.Resume.{CanResume, pages_held, resumed_core, resumed_device, resumed_memory, resumed_table};
 ghost use Rattle.ff_core.specs.EventTally.{no_tally};
 
 use crate::core_state::Room;
@@ -264,29 +265,105 @@ fn assemble<F: Flash, T: Tune, E: Pick>(
     }
 }
 
-// The base, the books, the memory and the device of a session. The error is want of memory, and hands the parts back.
-fn make<F: Flash>(
-    alloc: Global,
-    mounted: Mounted<F>,
+// The parts of a session over a store, a cache and a page table.
+fn join<F: Flash>(
+    store: PageStore<F>,
+    cache: Cache,
+    table: Table,
     supplies: Supplies,
     geometry: &Geometry,
-) -> Result<Made<F>, Mounted<F>>
+) -> Made<F>
     requires limits { IsWithinLimits geometry.now }
-    requires over { IsCacheOver geometry.now mounted.store mounted.cache }
-    requires none { mounted.store.waits ≡ None }
-    requires marks { length mounted.marks ≡ geometry.now.pages }
-    requires size { length supplies.base.pages ≡ geometry.now.pages }
+    requires over { IsCacheOver geometry.now store cache }
+    requires none { store.waits ≡ None }
     requires window { supplies.window ≡ record { posts = []; room = geometry.now.window } }
-    ensures ok { IfOk result (λ made. made ≡ record {
+    ensures { result ≡ record {
       base = supplies.base;
       history = supplies.history;
       log = supplies.log;
       memory = record {
         frames = supplies.frames;
-        table = resumed_table geometry.now.pages mounted.marks (pages_held supplies.base);
+        table = table;
         slots = supplies.plb;
         capacity = capacity_of geometry.now;
       };
+      device = resumed_device store cache geometry.now;
+    } }
+{
+    let Supplies {
+        base,
+        history,
+        log,
+        frames,
+        plb,
+        window,
+        page,
+    } = supplies;
+    Made {
+        base,
+        history,
+        log,
+        memory: make_memory(frames, table, plb, geometry),
+        device: make_device(store, cache, window, page, geometry),
+    }
+}
+
+// A session over these, with room of its own. The error is want of memory, and hands the parts back.
+fn make_over<F: Flash>(
+    alloc: Global,
+    store: PageStore<F>,
+    cache: Cache,
+    table: Table,
+    base: &Image,
+    geometry: &Geometry,
+    room: Room,
+) -> Result<Made<F>, Mounted<F>>
+    requires limits { IsWithinLimits geometry.now }
+    requires over { IsCacheOver geometry.now store cache }
+    requires none { store.waits ≡ None }
+    ensures ok { IfOk result (λ made. made ≡ record {
+      base = base.now;
+      history = record { entries = []; room = room.calls };
+      log = record { turns = []; room = room.turns };
+      memory = record {
+        frames = replicate geometry.now.frames free_frame;
+        table = table;
+        slots = replicate geometry.now.plb None;
+        capacity = capacity_of geometry.now;
+      };
+      device = resumed_device store cache geometry.now;
+    }) }
+    ensures err { IfErr result (λ back. back
+        ≡ record { store = store; cache = cache; marks = table.marks }) }
+{
+    match supply(alloc, base, geometry, room) {
+        Ok(supplies) => Ok(join(store, cache, table, supplies, geometry)),
+        Err(_) => Err(Mounted {
+            store,
+            cache,
+            marks: table.into_marks(),
+        }),
+    }
+}
+
+// The base, the books, the memory and the device of a session. The error is want of memory, and hands the parts back.
+fn make<F: Flash>(
+    alloc: Global,
+    mounted: Mounted<F>,
+    base: &Image,
+    geometry: &Geometry,
+    room: Room,
+) -> Result<Made<F>, Mounted<F>>
+    requires limits { IsWithinLimits geometry.now }
+    requires over { IsCacheOver geometry.now mounted.store mounted.cache }
+    requires none { mounted.store.waits ≡ None }
+    requires marks { length mounted.marks ≡ geometry.now.pages }
+    requires size { length base.now.pages ≡ geometry.now.pages }
+    ensures ok { IfOk result (λ made. made ≡ record {
+      base = base.now;
+      history = record { entries = []; room = room.calls };
+      log = record { turns = []; room = room.turns };
+      memory = resumed_memory geometry.now mounted.marks base.now;
       device = resumed_device mounted.store mounted.cache geometry.now;
     }) }
     ensures err { IfErr result (λ back. back ≡ mounted) }
@@ -296,14 +373,8 @@ fn make<F: Flash>(
         cache,
         marks,
     } = mounted;
-    match make_table(alloc, marks, &supplies.base, geometry.pages) {
-        Ok(table) => Ok(Made {
-            base: supplies.base,
-            history: supplies.history,
-            log: supplies.log,
-            memory: make_memory(supplies.frames, table, supplies.plb, geometry),
-            device: make_device(store, cache, supplies.window, supplies.page, geometry),
-        }),
+    match make_table(alloc, marks, base, geometry.pages) {
+        Ok(table) => make_over(alloc, store, cache, table, base, geometry, room),
         Err(marks) => Err(Mounted {
             store,
             cache,
@@ -331,16 +402,9 @@ pub fn resumed_state<F: Flash, T: Tune, E: Pick>(
         geometry tuner picker room from_event)
         (λ back. back ≡ record { mounted = mounted; tuner = tuner; picker = picker }) }
 {
-    let Ok(supplies) = supply(alloc, base, &geometry, room) else {
-        return Err(ResumeBack {
-            mounted,
-            tuner,
-            picker,
-        });
-    };
     match Policy::new(alloc, geometry.pages, tuner) {
-        Ok(policy) => resumed_over(
-            alloc, mounted, geometry, supplies, policy, picker, from_event,
+        Ok(policy) => resumed_with(
+            alloc, mounted, base, geometry, policy, picker, room, from_event,
         ),
         Err(tuner) => Err(ResumeBack {
             mounted,
@@ -350,45 +414,26 @@ pub fn resumed_state<F: Flash, T: Tune, E: Pick>(
     }
 }
 
-fn resumed_over<F: Flash, T: Tune, E: Pick>(
+fn resumed_with<F: Flash, T: Tune, E: Pick>(
     alloc: Global,
     mounted: Mounted<F>,
+    base: &Image,
     geometry: Geometry,
-    supplies: Supplies,
     policy: Policy<T>,
     picker: Picker<E>,
+    room: Room,
     from_event: u64,
 ) -> Result<State<F, T, E>, ResumeBack<F, T, E>>
     requires limits { IsWithinLimits geometry }
-    requires over { IsCacheOver geometry mounted.store mounted.cache }
-    requires none { mounted.store.waits ≡ None }
-    requires marks { length mounted.marks ≡ geometry.pages }
-    requires size { length supplies.base.pages ≡ geometry.pages }
-    requires window { supplies.window ≡ record { posts = []; room = geometry.window } }
-    ensures ok { IfOk result (λ state. state ≡ record {
-      opening = opening_of supplies.base geometry from_event mounted.store.world.flash.faults;
-      geometry = geometry;
-      from_counts = mounted.store.world.counts;
-      history = supplies.history;
-      events = from_event;
-      log = supplies.log;
-      tally = no_tally;
-      hierarchy = record {
-        memory = record {
-          frames = supplies.frames;
-          table = resumed_table geometry.pages mounted.marks (pages_held supplies.base);
-          slots = supplies.plb;
-          capacity = capacity_of geometry;
-        };
-        device = resumed_device mounted.store mounted.cache geometry;
-        policy = policy;
-        evictor = record { hand = 0; picker = picker };
-      };
-    }) }
-    ensures err { IfErr result (λ back. back
-        ≡ record { mounted = mounted; tuner = policy.tuner; picker = picker }) }
+    requires parts { CanResume geometry mounted.store mounted.cache mounted.marks from_event }
+    requires size { length base.now.pages ≡ geometry.pages }
+    requires policy { policy ≡ fresh_policy geometry.pages policy.tuner }
+    ensures { MatchResult result
+        (λ state. state ≡ resumed_core mounted.store mounted.cache mounted.marks base.now
+        geometry policy.tuner picker room from_event)
+        (λ back. back ≡ record { mounted = mounted; tuner = policy.tuner; picker = picker }) }
 {
-    match make(alloc, mounted, supplies, &geometry) {
+    match make(alloc, mounted, base, &geometry, room) {
         Ok(made) => Ok(assemble(made, policy, picker, geometry, from_event)),
         Err(mounted) => Err(ResumeBack {
             mounted,

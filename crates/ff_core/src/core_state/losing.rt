@@ -43,7 +43,6 @@ impl<F: Flash, T: Tune, E: Pick> Core<F, T, E> {
 
     /// Ends the session by a loss of power, at which the oldest `arrive` of the waiting posts arrive and the others are
     /// lost. It takes no memory.
-    #[tactic(auto, using(crate::proofs::Losing::lost_account))]
     pub fn power(self, arrive: u32) -> Lost<F, T, E>
         ensures base { result.base ≡ self.opening.base }
         ensures account { result.account ≡ record_of self (kept_after self arrive) }
@@ -70,7 +69,6 @@ impl<F: Flash, T: Tune, E: Pick> Core<F, T, E> {
     }
 }
 
-#[tactic(auto, using(crate::proofs::Losing::lost_sound, crate::proofs::PoweredDown::flash_off))]
 fn lose<F: Flash, T: Tune, E: Pick>(state: State<F, T, E>, arrive: u32) -> Lost<F, T, E>
     requires sound { IsCoreSound state }
     requires memory { IsMemorySound state.hierarchy.memory }
