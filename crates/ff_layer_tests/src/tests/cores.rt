@@ -135,13 +135,10 @@ fn play(core: &mut TestCore, steps: &[Step]) -> (Option<usize>, Counts) {
     (unlike, core.counts())
 }
 
-/// Lets a core go.
-pub fn discard(_core: TestCore) {}
-
 fn made_of(alloc: Global, row: &Row) -> Result<(Option<usize>, Counts), Fail> {
     let mut core = core_of(alloc, row.geometry, row.fault)?;
     let made = play(&mut core, row.steps);
-    discard(core);
+    drop(core);
     Ok(made)
 }
 
@@ -190,10 +187,9 @@ fn a_session_ends_in_its_record(rt: HostRuntime) -> Result<(), Fail> {
     assert_eq!(rt; held(&core), (1, 1, 1, 1));
     assert_eq!(rt; *core.geometry(), Geometry::default());
     let lost = power_off(core, 4);
-    assert_eq!(rt;
-        told(&lost.account),
-        (0, 1, Counts::default(), Some(Back::Idle))
-    );
+    let told = told(&lost.account);
+    drop(lost);
+    assert_eq!(rt; told, (0, 1, Counts::default(), Some(Back::Idle)));
     Ok(())
 }
 
@@ -225,9 +221,13 @@ fn left_by(alloc: Global, core: TestCore, arrive: u32) -> Result<(u32, u8, u8), 
     match Cache::from_nv(alloc, nv, &geometry) {
         Ok(parts) => {
             let (first, second) = first_bytes(&parts.cache);
+            drop(parts);
             Ok((kept, first, second))
         }
-        Err(_) => Err("no memory")?,
+        Err(nv) => {
+            drop(nv);
+            Err("no memory")?
+        }
     }
 }
 
@@ -276,7 +276,7 @@ fn cut_twice(core: &mut TestCore) -> (Option<Driven>, [(u64, u32, bool); 2]) {
 fn the_power_is_cut_before_an_event(rt: HostRuntime) -> Result<(), Fail> {
     let mut core = core_of(rt.alloc(), USUAL, Fault::Nothing)?;
     let came_to = cut_twice(&mut core);
-    discard(core);
+    drop(core);
     assert_eq!(rt; came_to, (Some(Driven::Off), [(1, 0, false); 2]));
     Ok(())
 }

@@ -80,6 +80,7 @@ fn steps_are_answered_so(rt: HostRuntime) -> Result<(), Fail> {
         for (number, step) in row.steps.iter().enumerate() {
             assert!(rt; is_answered(&mut rig, step), "step {number} of row {at}");
         }
+        drop(rig);
     }
     Ok(())
 }

@@ -136,7 +136,9 @@ type Twice = (Imaged, (u64, bool), Imaged);
 fn two_images(mut parts: Parts, alloc: Global) -> Twice {
     let first = image_of(&mut parts, alloc);
     let made = parts.made();
-    (first, made, image_of(&mut parts, alloc))
+    let second = image_of(&mut parts, alloc);
+    drop(parts);
+    (first, made, second)
 }
 
 // The stores take ten operations, and an image two. It can be made again where it failed.
@@ -172,7 +174,9 @@ fn an_image_has_what_is_held_or_stops_at_a_read(rt: HostRuntime) -> Result<(), F
 // The operations that were made, and whether page 3 is mapped.
 fn mapped_by(mounted: Mounted<SimFlash>) -> (u64, bool) {
     let store = &mounted.store;
-    (store.flash().operation_count(), store.is_mapped(PageNo(3)))
+    let found = (store.flash().operation_count(), store.is_mapped(PageNo(3)));
+    drop(mounted);
+    found
 }
 
 // What the last mount made: the first, or where that was refused, the second.

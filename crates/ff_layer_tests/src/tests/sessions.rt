@@ -7,7 +7,7 @@ ghost use Rattle.ff_mount.specs.Sound.{AreSound};
 ghost use Rattle.ff_sessions.specs.Remounts.{HasRemounted};
 ghost use Rattle.ff_trace.specs.Within.{AreWithin};
 
-use super::cores::{TestCore, checked, core_of, discard};
+use super::cores::{TestCore, checked, core_of};
 use super::plans::{Fault, USUAL};
 use super::rules::{ByDirty, ByHits};
 use ff_base::{Caller, Geometry};
@@ -139,7 +139,7 @@ fn nothing_is_done_at_the_last_event_number(rt: HostRuntime) -> Result<(), Fail>
     assert_eq!(rt; spare(&core).1, 1);
     assert_eq!(rt; promote_turn(&mut core), Some(Back::Spent));
     assert_eq!(rt; core.events(), LAST_EVENT);
-    discard(core);
+    drop(core);
     Ok(())
 }
 
@@ -173,6 +173,7 @@ fn a_run_goes_on_behind_a_loss_of_power(rt: HostRuntime) -> Result<(), Fail> {
         [first, last] => [told(first), told(last)],
         _ => panic!(rt; "two sessions"),
     };
+    drop(sessions);
     assert_eq!(rt; told, [(0, 1, 1, 0), (1, 2, 1, 1)]);
     Ok(())
 }

@@ -24,9 +24,6 @@ fn rig_of(rt: &impl Abort, alloc: Global, geometry: &Geometry, fault: Fault) -> 
     StoreRig::new(alloc, geometry, fault).expect(rt, "want of memory")
 }
 
-/// Lets a rig go.
-pub fn discard(_rig: StoreRig) {}
-
 fn make(rt: &impl Abort, rig: &mut StoreRig, page: &mut PageBuf, call: Call) {
     match call {
         Call::Flush(number, byte) => {
@@ -78,7 +75,7 @@ fn a_flush_without_a_place_collects(rt: HostRuntime) -> Result<(), Fail> {
     make_all(&rt, &mut rig, &mut page, &last[..2]);
     assert_eq!(rt; counted(rig.store()), [4, 8, 8, 1]);
     make_all(&rt, &mut rig, &mut page, &last[2..]);
-    discard(rig);
+    drop(rig);
     Ok(())
 }
 
@@ -107,7 +104,7 @@ fn a_page_flushed_anew_keeps_its_bytes_over_a_commit(rt: HostRuntime) -> Result<
     ];
     make_all(&rt, &mut rig, &mut page, &calls);
     assert_eq!(rt; counted(rig.store()), [5, 9, 9, 1]);
-    discard(rig);
+    drop(rig);
     Ok(())
 }
 
@@ -129,7 +126,7 @@ fn a_full_store_takes_each_page_anew(rt: HostRuntime) -> Result<(), Fail> {
             make(&rt, &mut rig, &mut page, Call::Fetch(number, 16 * turn + 1));
         }
     }
-    discard(rig);
+    drop(rig);
     Ok(())
 }
 

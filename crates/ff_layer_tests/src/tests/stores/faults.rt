@@ -1,5 +1,5 @@
 // Six flushes, and a seventh that collects a block first, where each operation fails or is cut.
-use super::{StoreRig, discard, rig_of};
+use super::{StoreRig, rig_of};
 use crate::tests::found::Found;
 use crate::tests::plans::{Fault, SMALL, STORES, fill, set_byte};
 use ff_base::{PageBuf, PageNo};
@@ -47,7 +47,7 @@ fn a_flush_that_failed_leaves_the_old_bytes(rt: HostRuntime) -> Result<(), Fail>
     for made in 0..OPERATIONS {
         let mut rig = rig_of(&rt, rt.alloc(), &SMALL, Fault::Fail(made));
         let failed = flush_all(&rt, &mut rig, &mut page);
-        discard(rig);
+        drop(rig);
         assert!(rt; failed, "after {made}");
     }
     Ok(())
@@ -102,7 +102,7 @@ fn a_mount_finds_what_is_stored(rt: HostRuntime) -> Result<(), Fail> {
             assert_eq!(rt; rig.store().flash().operation_count(), probed);
             check_bytes(&rt, &mut rig, &mut page, &wanted);
             let failed = flush_all(&rt, &mut rig, &mut page);
-            discard(rig);
+            drop(rig);
             assert!(rt; !failed, "after {made} with {mask}");
         }
     }
