@@ -6,7 +6,7 @@ use Rattle.ff_base.specs.declared.numbers.PageNo.{PageNo}
 use Rattle.ff_base.specs.declared.numbers.Ppn.{Ppn}
 use Rattle.ff_flash.proofs.OperationCells.{program_worked, seal_elsewhere, seal_worked}
 use Rattle.ff_flash.proofs.SealedCells.{closed_unsealed, closed_within, sealed_within}
-use Rattle.ff_flash.specs.Cells.{Cell, cell_at, cell_bytes, sealed}
+use Rattle.ff_flash.specs.Cells.{Cell, IsSealed, cell_at, cell_bytes, sealed}
 use Rattle.ff_flash.specs.Injected.{stop_of}
 use Rattle.ff_flash.specs.declared.flash.FlashStop.{FlashStop}
 use Rattle.ff_flash.specs.declared.flash.FlashStop.TheVariants.{Failed, Off}
@@ -22,7 +22,7 @@ use Rattle.ff_gc.proofs.Stepping.{steps_kept}
 use Rattle.ff_gc.specs.Collector.{is_busy}
 use Rattle.ff_gc.specs.Running.{IsAt}
 use Rattle.ff_gc.specs.Steps.{IsStep, IsStepAt, empty, full, idle, made, mapped, none, operation_of, programs, reads}
-use Rattle.ff_gc.specs.World.{World, mapped_bytes}
+use Rattle.ff_gc.specs.World.{World, mapped_bytes, page_bytes}
 use Rattle.ff_gc.specs.declared.collector.GcStep.{GcStep}
 use Rattle.ff_gc.specs.declared.collector.GcStep.TheVariants.{Idle as IdleStep, Read as ReadStep, Programmed as ProgrammedStep, Sealed as SealedStep, Committed, Erased, Aborted}
 use Rattle.ff_gc.specs.declared.counts.OperationKind.TheVariants.{Program, Read, Seal}
@@ -48,6 +48,26 @@ pub place_within : (s : PageStoreView) (page : PageNo) (at : Ppn) → IsStoreSou
 place_within s page at sound is =
     let found = mapped_at s.world.places page at is in
     sealed_within s.world.flash.cells at.0 _ _ (sound.always.safe.mapped.placed page _ found.is)
+
+-- which is sealed
+pub place_sealed : (s : PageStoreView) (page : PageNo) (at : Ppn) → IsStoreSound s → place_of s.world.places page ≡ Some at
+    → IsSealed (cell_at s.world.flash.cells at.0)
+place_sealed s page at sound is =
+    let found = mapped_at s.world.places page at is in
+    subst (λ (cell : Cell). IsSealed cell) (sym (sound.always.safe.mapped.placed page _ found.is)) tt
+
+pub fetched_bytes : (s new : PageStoreView) (page : PageNo) (at : Ppn) (before after : List ℕ)
+    (result : Result (Unit {0}) FlashStop) → place_of s.world.places page ≡ Some at → Fetches s at before result after new
+    → IfOk result (λ _. after ≡ page_bytes s.world page)
+fetched_bytes s new page at before after (Ok done) is r =
+    let found = mapped_at s.world.places page at is in
+    r.cells.0 ∙ ap (λ (m : Option Mapping). mapped_bytes s.world.flash.cells m) (sym found.is)
+fetched_bytes s new page at before after (Err stop) is r = tt
+
+pub fetched_kept : (s new : PageStoreView) (at : Ppn) (before after : List ℕ) (result : Result (Unit {0}) FlashStop)
+    → Fetches s at before result after new → IfErr result (λ _. after ≡ before)
+fetched_kept s new at before after (Ok done) r = tt
+fetched_kept s new at before after (Err stop) r = r.cells.0
 
 pub fetched_call : (s new : PageStoreView) (at : Ppn) (before after : List ℕ) (result : Result (Unit {0}) FlashStop)
     → Fetches s at before result after new → IsCall s (stop_of result) new

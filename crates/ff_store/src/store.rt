@@ -166,7 +166,6 @@ impl<F: Flash> PageStore<F> {
     }
 
     /// Reads a page. One that isn't mapped is zeros, without a flash operation.
-    #[tactic(auto, using(crate::proofs::Calling::place_within, crate::proofs::Calling::fetched_call))]
     pub fn fetch(&mut self, page: PageNo, into: &mut PageBuf) -> Result<(), FlashStop>
         requires life { HasOperationsLeft self.old.world.flash }
         ensures off { self.old.world.flash.on ≡ false → (result ≡ Err Off) × (self.new ≡ self.old) }
