@@ -79,15 +79,22 @@ fn go_on<T: Tune + Drop, E: Pick + Drop>(
         picker,
     } = closed;
     let Some(mounted) = mounted else {
+        drop(tuner);
+        drop(picker);
         return Ok(Step {
             session,
             next: None,
         });
     };
-    let next = open_behind(
+    match open_behind(
         alloc, mounted, &session, stop, tuner, picker, rows, geometry,
-    )?;
-    Ok(Step { session, next })
+    ) {
+        Ok(next) => Ok(Step { session, next }),
+        Err(NoMemory) => {
+            drop(session);
+            Err(NoMemory)
+        }
+    }
 }
 
 // Opens the session behind one that is over, over its mounted parts, where rows are left.
@@ -116,6 +123,9 @@ fn open_behind<T: Tune + Drop, E: Pick + Drop>(
     ensures ends { IfOk result (λ next. IfNone next (cursor_after stop ≡ None)) }
 {
     let Some(at) = behind(stop, rows.len()) else {
+        drop(mounted);
+        drop(tuner);
+        drop(picker);
         return Ok(None);
     };
     let Some(base) = &session.image else {
@@ -195,10 +205,15 @@ fn run_all<T: Tune + Drop, E: Pick + Drop>(
     let mut running = first;
     for _ in 0..MOST_SESSIONS {
         let Step { session, next } = next_session(alloc, running, rows, geometry)?;
-        sessions.push(session)?;
-        match next {
-            Some(later) => running = later,
-            None => return Ok(()),
+        match sessions.push(session) {
+            Ok(()) => match next {
+                Some(later) => running = later,
+                None => return Ok(()),
+            },
+            Err(_) => {
+                drop(next);
+                return Err(NoMemory);
+            }
         }
     }
     unreachable!()

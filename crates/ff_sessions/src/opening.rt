@@ -79,7 +79,10 @@ pub fn open_first<T: Tune + Drop, E: Pick + Drop>(
     let flash = SimFlash::new(alloc, &geometry, plan)?;
     match Core::fresh(alloc, flash, geometry, tuner, picker, room) {
         Ok(core) => Ok(core),
-        Err(_) => Err(NoMemory),
+        Err(back) => {
+            drop(back);
+            Err(NoMemory)
+        }
     }
 }
 
@@ -109,7 +112,10 @@ pub fn open_next<T: Tune + Drop, E: Pick + Drop>(
     let room = room_for(rows);
     match Core::resume(alloc, mounted, base, *geometry, tuner, picker, room, event) {
         Ok(core) => Ok(core),
-        Err(_) => Err(NoMemory),
+        Err(back) => {
+            drop(back);
+            Err(NoMemory)
+        }
     }
 }
 

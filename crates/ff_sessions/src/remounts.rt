@@ -35,7 +35,10 @@ pub fn remount<F: Flash + Drop>(
     match mount(alloc, nv, flash, geometry) {
         Ok(mut mounted) => match image_of(alloc, &mut mounted, geometry) {
             Ok(image) => Ok(MountedImage { mounted, image }),
-            Err(stop) => Err(stop),
+            Err(stop) => {
+                drop(mounted);
+                Err(stop)
+            }
         },
         Err(back) => Err(stop_of(back)),
     }

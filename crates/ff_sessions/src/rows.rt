@@ -107,9 +107,9 @@ fn make_call<F: Flash, T: Tune, E: Pick>(
     ensures { RowRuns core.old (rows.Call caller op.now) 0 result core.new numbers.new }
 {
     core.known();
-    let number = &mut numbers[caller.0 as usize];
-    match core.drive(caller, *number, op) {
+    match core.drive(caller, numbers[caller.0 as usize], op) {
         Driven::Served(_) => {
+            let number = &mut numbers[caller.0 as usize];
             *number += 1;
             RowStop::Done
         }

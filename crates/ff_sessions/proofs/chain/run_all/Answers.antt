@@ -17,12 +17,12 @@ next_session-requires-clause-may_run g c =
 
 pub returns-in-None-clause-sessions : goal.returns-in-None-clause-sessions
 returns-in-None-clause-sessions g c =
-    rw c.in_ok-push.ensures.items (runs_out (setup_in c.args.first.core) c.args.rows.now
+    rw c.in-Ok.ensures.items (runs_out (setup_in c.args.first.core) c.args.rows.now
     c.loop.sessions.items c.loop.running c.in_ok-session.field-0 c.loop.invariant.running c.in_ok-session.ensures c.in-None.is)
 
 pub loop-preserved : goal.loop-preserved
 loop-preserved g c =
-    let pushed = c.in_ok-push.ensures.items in
+    let pushed = c.in-Ok.ensures.items in
     record {
       running = rw pushed (runs_on (setup_in c.args.first.core) c.args.rows.now
           c.loop.sessions.items c.loop.running c.in_ok-session.field-0 c.in-Some.later c.loop.invariant.running c.in_ok-session.ensures
