@@ -41,7 +41,10 @@ pub fn close<T: Tune + Drop, E: Pick + Drop>(
 {
     match remount_copies(alloc, &lost.nv, &lost.flash, geometry) {
         Ok(MountedImage { mounted, image }) => Ok(kept(lost, Some(mounted), Some(image), None)),
-        Err(MountStop::NoMemory) => Err(NoMemory),
+        Err(MountStop::NoMemory) => {
+            drop(lost);
+            Err(NoMemory)
+        }
         Err(stop) => Ok(kept(lost, None, None, Some(stop))),
     }
 }

@@ -42,7 +42,10 @@ pub fn core_of(alloc: Global, geometry: Geometry, fault: Fault) -> Result<TestCo
     let picker = Picker::new(ByDirty);
     match Core::fresh(alloc, flash, geometry, tuner, picker, ROOM) {
         Ok(core) => Ok(core),
-        Err(_) => Err("no memory")?,
+        Err(back) => {
+            drop(back);
+            Err("no memory")?
+        }
     }
 }
 

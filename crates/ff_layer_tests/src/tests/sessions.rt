@@ -57,9 +57,15 @@ fn remount(alloc: Global, nv: Nv, flash: SimFlash, geometry: &Geometry) -> Optio
     match mount(alloc, nv, flash, geometry) {
         Ok(mut mounted) => match image_of(alloc, &mut mounted, geometry) {
             Ok(image) => Some(Remounted { mounted, image }),
-            Err(_) => None,
+            Err(_) => {
+                drop(mounted);
+                None
+            }
         },
-        Err(_) => None,
+        Err(back) => {
+            drop(back);
+            None
+        }
     }
 }
 
@@ -96,7 +102,10 @@ fn resumed(
         alloc, mounted, &image, geometry, tuner, picker, room, LAST_EVENT,
     ) {
         Ok(core) => Some(core),
-        Err(_) => None,
+        Err(back) => {
+            drop(back);
+            None
+        }
     }
 }
 
