@@ -24,6 +24,14 @@ pub record HasRead (bytes : List ℕ) (records : List (List (List ℕ)))
   pub source : source_of (λ (s : Bor (List ℕ)). Some s.now) reader ≡ Some rest
   pub reached : Reached default_config st.StartRecord (strip_bom bytes) records reader.state rest
 
+-- a reader of some text has read no record of it
+abbrev pub HasReadNothing : Reader (Bor (List ℕ)) → Type 0
+HasReadNothing reader = (bytes : List ℕ) × HasRead bytes [] reader
+
+-- this holds of the text of which a reader has read no record
+abbrev pub IsOfText : Reader (Bor (List ℕ)) → (List ℕ → Type 0) → Type 0
+IsOfText reader fact = (bytes : List ℕ) → HasRead bytes [] reader → fact bytes
+
 -- one more read of a reader gave a record of these fields, or found that the text has no more
 abbrev pub ReadsOne : Reader (Bor (List ℕ)) → Reader (Bor (List ℕ)) → Bool → List (List ℕ) → Type 0
 ReadsOne old new found fields =

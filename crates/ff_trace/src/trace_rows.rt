@@ -2,7 +2,7 @@
 ghost use Rattle.std.specs.Prelude.{◌≡◌, ◌≤◌, ◌++◌, ◌∷◌, [], IfOk, IfErr, IfSome, OnOk, Some, vec_len};
 ghost use Rattle.csv.specs.Records.{fields_of};
 ghost use Rattle.ff_trace.specs.Fields.{row_of};
-ghost use Rattle.ff_trace.specs.Reading.{HasRead, IsSetForTrace, ReadsOne};
+ghost use Rattle.ff_trace.specs.Reading.{HasRead, HasReadNothing, IsOfText, IsSetForTrace, ReadsOne};
 ghost use Rattle.ff_trace.specs.declared.trace_rows.BadTrace.TheVariants as bad;
 ghost use Rattle.ff_trace.specs.Tally.{most_rows, with_row};
 ghost use Rattle.ff_trace.specs.Trace.{IsTrace, IsCauseOf, if_fits};
@@ -34,24 +34,51 @@ pub fn trace(alloc: Global, bytes: &[u8], cuts: u32, threads: bool) -> Result<Ve
     ensures cause { IfErr result (IsCauseOf (record { cuts = cuts; threads = threads }) bytes.now) }
 {
     let limits = Limits { cuts, threads };
+    let mut rows = make_rows(alloc, bytes)?;
     let mut reader = reader(alloc, bytes);
     let mut fields = ByteRecord::new(alloc);
-    if !read(&mut reader, &mut fields)? {
+    let read = read_rows(&mut reader, &mut fields, limits, &mut rows);
+    drop(reader);
+    drop(fields);
+    match read {
+        Ok(()) => Ok(rows),
+        Err(cause) => {
+            drop(rows);
+            Err(cause)
+        }
+    }
+}
+
+/// Reads the header and then the rows, up to the end of the text.
+fn read_rows(
+    reader: &mut Reader<&[u8]>,
+    fields: &mut ByteRecord,
+    limits: Limits,
+    rows: &mut Vec<Row>,
+) -> Result<(), BadTrace>
+    requires reader { HasReadNothing reader.old }
+    requires none { rows.old.items ≡ [] }
+    ensures rows { OnOk result
+        (IsOfText reader.old (λ bytes. IsTrace limits bytes rows.new.items)) }
+    ensures few { OnOk result (vec_len rows.new ≤ most_rows) }
+    ensures cause { IfErr result (λ cause.
+        IsOfText reader.old (λ bytes. IsCauseOf limits bytes cause)) }
+{
+    if !read(reader, fields)? {
         return Err(BadTrace::Row(0));
     }
-    if !is_header(&fields) {
+    if !is_header(fields) {
         return Err(BadTrace::Row(0));
     }
-    let mut rows = make_rows(alloc, bytes)?;
     let mut tally = Tally::new();
     for number in 1..=MAX_ROWS + 1 {
-        if !read(&mut reader, &mut fields)? {
-            return Ok(rows);
+        if !read(reader, fields)? {
+            return Ok(());
         }
-        let Some(row) = next_row(&mut tally, limits, &fields) else {
+        let Some(row) = next_row(&mut tally, limits, fields) else {
             return Err(BadTrace::Row(number));
         };
-        push(&mut rows, row)?;
+        push(rows, row)?;
     }
     unreachable!()
 }

@@ -12,7 +12,7 @@ pub(crate) fn parser<'a>(alloc: Global) -> Result<Command<'a>, AllocError>
 {
     let schedule = with(named(alloc), Command::new(alloc, "schedule"))?;
     let threads = with(schedule, Command::new(alloc, "threads"))?;
-    with(threads, load(alloc)?)
+    with_load(alloc, threads)
 }
 
 // The program's name.
@@ -34,6 +34,20 @@ fn load<'a>(alloc: Global) -> Result<Command<'a>, AllocError>
         .action(ArgAction::Set)
         .value_parser(clap::value_parser!(u32));
     Command::new(alloc, "load").arg(number)
+}
+
+// A command with `load` below it.
+fn with_load<'a>(alloc: Global, above: Command<'a>) -> Result<Command<'a>, AllocError>
+    ensures { (a : App) → IsToldAs above.entry a
+        → IfOk result (λ all. IsToldAs all (with_subcommand a load_app.top)) }
+{
+    match load(alloc) {
+        Ok(load) => with(above, load),
+        Err(error) => {
+            drop(above);
+            Err(error)
+        }
+    }
 }
 
 // A command with one more below it.

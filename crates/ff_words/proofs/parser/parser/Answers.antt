@@ -7,4 +7,4 @@ unfolding flatflash
 returns c =
     let schedule = c.in_ok-schedule.ensures _ _ c.named.ensures (record { told = c.new.ensures.app; own = c.new.ensures.local }) in
     let threads = c.in_ok-threads.ensures _ _ schedule (record { told = c.new-2.ensures.app; own = c.new-2.ensures.local }) in
-    IfOk-weaker c.with-3.result _ _ (λ parser told. told.told) (c.with-3.ensures _ _ threads c.in_ok-load.ensures)
+    IfOk-weaker c.with_load.result _ _ (λ parser told. told.told) (c.with_load.ensures _ threads)
