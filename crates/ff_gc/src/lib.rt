@@ -12,4 +12,3 @@ mod phase;
 
 pub use collector::{Collector, GcStep};
 pub use counts::{FlashCounts, OperationKind};
-pub use phase::{Job, Original, Phase};

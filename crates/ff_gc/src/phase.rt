@@ -3,7 +3,7 @@ use ff_base::{Block, PageNo, Ppn};
 
 /// A collection that copies: the block that is collected, the one that the copies go to, and how many pages of the
 /// victim are seen, which are those up to the last sealed copy.
-#[derive(Clone, Copy, Debug, PartialEq, Eq)]
+#[derive(Clone, Copy)]
 pub struct Job {
     pub victim: Block,
     pub into: Block,
@@ -11,7 +11,7 @@ pub struct Job {
 }
 
 /// A page of the victim that is copied: its place there, and its version.
-#[derive(Clone, Copy, Debug, PartialEq, Eq)]
+#[derive(Clone, Copy)]
 pub struct Original {
     pub page: PageNo,
     pub from: Ppn,
@@ -19,7 +19,7 @@ pub struct Original {
 }
 
 /// What the collector does next.
-#[derive(Clone, Copy, Debug, PartialEq, Eq)]
+#[derive(Clone, Copy)]
 pub enum Phase {
     /// No collection runs.
     Idle,

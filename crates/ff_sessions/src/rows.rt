@@ -22,7 +22,7 @@ use ff_policy::Tune;
 use ff_trace::{CALLERS, Row};
 
 // What became of a row.
-#[derive(Clone, Copy, Debug, PartialEq, Eq)]
+#[derive(Clone, Copy)]
 enum RowStop {
     Done,
     /// Its next call or turn was cut, behind so many turns.

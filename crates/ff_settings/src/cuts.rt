@@ -17,7 +17,7 @@ use std::alloc::{AllocError, Global};
 use toml::{Table, Value};
 
 /// The three numbers of a cut as they are written.
-#[derive(Clone, Copy, Debug, PartialEq, Eq)]
+#[derive(Clone, Copy)]
 pub(crate) struct WideCut {
     pub at: u64,
     pub mask: u64,

@@ -74,7 +74,7 @@ fn caller_in(number: Option<u32>) -> Option<u16>
 }
 
 /// A first line of a page, and a count of lines, as they are written.
-#[derive(Clone, Copy, Debug, PartialEq, Eq)]
+#[derive(Clone, Copy)]
 pub(crate) struct LineRange {
     pub from: u32,
     pub count: u32,
