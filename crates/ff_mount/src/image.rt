@@ -102,14 +102,22 @@ pub fn image_of<F: Flash>(
     let _sound = mounted.store.flash().fault_count();
     let mut image = marked_image(alloc, &mounted.marks, geometry.pages)?;
     let Ok(mut buffer) = PageBuf::new(alloc) else {
+        drop(image);
         return Err(MountStop::NoMemory);
     };
-    put_all(
+    let read = put_all(
         &mut mounted.store,
         &mounted.cache,
         geometry.pages,
         &mut image,
         &mut buffer,
-    )?;
-    Ok(image)
+    );
+    drop(buffer);
+    match read {
+        Ok(()) => Ok(image),
+        Err(stop) => {
+            drop(image);
+            Err(stop)
+        }
+    }
 }
