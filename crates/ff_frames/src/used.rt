@@ -36,10 +36,7 @@ impl UsedFrames {
         ensures none { IfOk result (λ used. used ≡ replicate (frames / 64 + 1) no_lines) }
     {
         let count = frames / FRAMES_A_MASK + 1;
-        let mut masks = Vec::with_capacity(alloc, count as usize)?;
-        for _ in 0..count {
-            masks.push(LineMask(0))?;
-        }
+        let masks = vec![in alloc; LineMask(0); count as usize]?;
         Ok(UsedFrames { masks })
     }
 

@@ -35,10 +35,7 @@ impl Model for Plb {
 fn empty_slots(alloc: Global, count: u32) -> Result<Vec<Option<Slot>>, NoMemory>
     ensures { IfOk result (λ slots. slots.items ≡ replicate count None) }
 {
-    let mut slots = Vec::with_capacity(alloc, count as usize)?;
-    for _ in 0..count {
-        slots.push(None)?;
-    }
+    let slots = vec![in alloc; None; count as usize]?;
     Ok(slots)
 }
 

@@ -40,10 +40,7 @@ impl Model for Table {
 fn homes_on_ssd(alloc: Global, pages: u32) -> Result<Vec<Home>, NoMemory>
     ensures { IfOk result (λ homes. homes.items ≡ replicate pages Ssd) }
 {
-    let mut homes = Vec::with_capacity(alloc, pages as usize)?;
-    for _ in 0..pages {
-        homes.push(Home::Ssd)?;
-    }
+    let homes = vec![in alloc; Home::Ssd; pages as usize]?;
     Ok(homes)
 }
 
