@@ -1,1 +1,2 @@
+pub mod AskedParts
 pub mod Taken

@@ -1,5 +1,5 @@
 // The bytes of an input, and its parts.
-ghost use Rattle.std.specs.Prelude.{◌≡◌, ◌≤◌, ◌<◌, ◌+◌, [], length, vec_capacity, vec_len, IfOk, IfErr, MatchOption};
+ghost use Rattle.std.specs.Prelude.{◌≡◌, ◌≤◌, ◌<◌, ◌+◌, [], length, vec_capacity, vec_len, IfOk, IfErr, MatchOption, OnOk};
 ghost use Rattle.std.specs.Option.{option_copied};
 ghost use Rattle.ff_input.specs.Input.{IsReadCause, IsSplit, IsUnsplit, ReadsWhole, begins_line, behind_separator, chunk_size, input_limit, source_change};
 ghost use Rattle.ff_input.specs.declared.input_bytes.ReadStop.TheVariants as read_stop;
@@ -15,7 +15,7 @@ pub const INPUT_LIMIT: usize = 1 << 26;
 const CHUNK_BYTES: usize = 1 << 16;
 
 /// Why the bytes of an input can't be had.
-#[derive(Clone, Copy, Debug, PartialEq, Eq)]
+#[derive(Clone, Copy)]
 pub enum ReadStop {
     NoMemory,
     /// A read of the source failed.
@@ -35,13 +35,39 @@ pub fn read_all<S: Source>(alloc: Global, source: &mut S) -> Result<Vec<u8>, Rea
 {
     let mut chunk = make_chunk(alloc)?;
     let mut bytes = make_room(alloc)?;
+    let read = read_into(source, &mut chunk, &mut bytes);
+    drop(chunk);
+    match read {
+        Ok(()) => Ok(bytes),
+        Err(stop) => {
+            drop(bytes);
+            Err(stop)
+        }
+    }
+}
+
+// Reads a source to its end, a chunk a read, into room that is reserved.
+fn read_into<S: Source>(
+    source: &mut S,
+    chunk: &mut [u8],
+    bytes: &mut Vec<u8>,
+) -> Result<(), ReadStop>
+    requires chunk { length chunk.old ≡ chunk_size }
+    requires empty { bytes.old.items ≡ [] }
+    requires room { input_limit + chunk_size ≤ vec_capacity bytes.old }
+    ensures ok { OnOk result
+        (ReadsWhole (source_change S.left S.faults source.old source.new)
+        (λ input. input ≡ bytes.new.items)) }
+    ensures err { IfErr result
+        (IsReadCause (source_change S.left S.faults source.old source.new)) }
+{
     for _ in 0..INPUT_LIMIT + 1 {
-        let count = match source.read(&mut chunk) {
-            Ok(0) => return Ok(bytes),
+        let count = match source.read(chunk) {
+            Ok(0) => return Ok(()),
             Ok(count) => count,
             Err(Failed) => return Err(ReadStop::Fault),
         };
-        append_reserved(&mut bytes, &chunk[..count]);
+        append_reserved(bytes, &chunk[..count]);
         if bytes.len() > INPUT_LIMIT {
             return Err(ReadStop::TooLong);
         }

@@ -2,7 +2,7 @@ use Rattle.std.proofs.Common.{◌≡◌, ◌≤◌, ◌+◌, length}
 use Rattle.std.specs.Prelude.{vec_capacity, vec_len}
 use Rattle.std.specs.Io.KnownBytes.{Consumes}
 use Rattle.ff_input.specs.Input.{chunk_size, input_limit}
-use Rattle.ff_input.proofs.input_bytes.read_all.Given as goal
+use Rattle.ff_input.proofs.input_bytes.read_into.Given as goal
 
 abbrev pub invariant-loop : goal.invariant-loop
 invariant-loop g l = record {
@@ -11,5 +11,5 @@ invariant-loop g l = record {
   size : length l.bytes.items ≤ input_limit;
   count : l.counter ≤ length l.bytes.items;
   room : input_limit + chunk_size ≤ vec_capacity l.bytes;
-  chunk : vec_len l.chunk ≡ chunk_size;
+  chunk : length l.chunk ≡ chunk_size;
 }
