@@ -49,5 +49,3 @@ pub rows-end : (number at state : ℕ) (rows : List Row) → HasRows number at s
 rows-end number at state rows has past =
     let none = calls_from-none (20000 - at) state (omega arith) in
     sym (append-nil rows) ∙ sym (ap (λ (ops : List Op). rows ++ flat_map rows_at (enumerate_from at ops)) none) ∙ has.whole
-
-pub ruleset all_rows = (rows-start, rows-more, rows-end)

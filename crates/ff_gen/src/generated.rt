@@ -18,7 +18,6 @@ const ROWS: usize = 25_004;
 
 /// The rows that the number makes: a mark of each of four callers, then 20,000 calls that are drawn, with
 /// background turns behind each sixteenth. They are meant for 256 pages.
-#[tactic(auto, using(crate::proofs::Rows::all_rows))]
 pub fn generate(alloc: Global, number: u32) -> Result<Vec<Row>, NoMemory>
     ensures { IfOk result (λ rows. rows.items ≡ generated number) }
 {
