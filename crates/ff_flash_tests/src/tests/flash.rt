@@ -76,14 +76,29 @@ fn pages_change_by_the_table(rt: HostRuntime) -> Result<(), Fail> {
 // The letters of an operation from a state, each way that it goes.
 fn row(alloc: Global, call: Call, state: u8) -> Result<[u8; 20], NoMemory> {
     let mut letters = *b"                    ";
+    let mut page = PageBuf::new(alloc)?;
     for i in 0..5 {
-        let mut flash = flash_in(alloc, state, WAYS[i])?;
-        let mut page = PageBuf::new(alloc)?;
-        letters[4 * i] = answer_letter(make(&mut flash, call, Ppn(4), &mut page));
-        letters[4 * i + 1] = state_letter(flash.glance(Ppn(4)));
-        letters[4 * i + 2] = state_letter(flash.glance(Ppn(5)));
+        let [answer, first, second] = letters_of(alloc, call, state, WAYS[i], &mut page)?;
+        letters[4 * i] = answer;
+        letters[4 * i + 1] = first;
+        letters[4 * i + 2] = second;
     }
     Ok(letters)
+}
+
+// The letters of an operation that goes this way.
+fn letters_of(
+    alloc: Global,
+    call: Call,
+    state: u8,
+    way: Way,
+    page: &mut PageBuf,
+) -> Result<[u8; 3], NoMemory> {
+    let mut flash = flash_in(alloc, state, way, page)?;
+    let answer = answer_letter(make(&mut flash, call, Ppn(4), page));
+    let (first, second) = (flash.glance(Ppn(4)), flash.glance(Ppn(5)));
+    drop(flash);
+    Ok([answer, state_letter(first), state_letter(second)])
 }
 
 fn answer_letter(answer: Answer) -> u8 {
@@ -105,50 +120,80 @@ fn state_letter(state: Option<Probe>) -> u8 {
     }
 }
 
-#[test]
-fn a_flash_tells_its_counts_and_its_cut(rt: HostRuntime) -> Result<(), Fail> {
-    let mut flash = flash_in(rt.alloc(), b'e', Way::Cut(0))?;
-    assert_eq!(rt; counts_of(&flash), (6, 0, true, None));
-    let mut page = PageBuf::new(rt.alloc())?;
-    let _ = make(&mut flash, Call::Probe, Ppn(0), &mut page);
-    let copy = copy_of(rt.alloc(), &flash)?;
-    for (on, cut) in [(false, Some(2)), (true, None), (false, None)] {
-        switch(&mut flash, on);
-        assert_eq!(rt; counts_of(&flash), (7, 0, on, cut));
-    }
-    assert_eq!(rt; counts_of(&copy), (7, 0, false, Some(2)));
-    Ok(())
-}
-
-#[test]
-fn a_flash_tells_its_plan(rt: HostRuntime) -> Result<(), Fail> {
-    let flash = flash_in(rt.alloc(), b'e', Way::Cut(0))?;
-    assert!(rt; flash.plan_is(&plan_of(rt.alloc(), Way::Cut(0))?));
-    assert!(rt; !flash.plan_is(&plan_of(rt.alloc(), Way::Fails)?));
-    Ok(())
-}
-
-// These two have no contract, so that the proof of a test that calls them stays short.
-fn switch(flash: &mut SimFlash, on: bool) {
-    if on {
-        flash.power_up();
-    } else {
-        flash.power_off();
-    }
-}
-
-fn copy_of(alloc: Global, flash: &SimFlash) -> Result<SimFlash, NoMemory> {
-    flash.copy(alloc)
-}
-
 /// The operations made, the faults, whether the power is on, and the posts that arrive after a cut.
-fn counts_of(flash: &SimFlash) -> (u64, u64, bool, Option<u32>) {
+type Told = (u64, u64, bool, Option<u32>);
+
+fn told(flash: &SimFlash) -> Told {
     (
         flash.operation_count(),
         flash.fault_count(),
         flash.is_on(),
         flash.cut_arrive(),
     )
+}
+
+// What a flash tells once it is switched off, on, and off again.
+fn switched(flash: &mut SimFlash) -> [Told; 3] {
+    flash.power_off();
+    let off = told(flash);
+    flash.power_up();
+    let on = told(flash);
+    flash.power_off();
+    [off, on, told(flash)]
+}
+
+// The same, and what a copy tells then that was made before.
+fn switched_beside_copy(alloc: Global, flash: &mut SimFlash) -> Option<([Told; 3], Told)> {
+    match flash.copy(alloc) {
+        Ok(copy) => {
+            let switched = switched(flash);
+            let told = told(&copy);
+            drop(copy);
+            Some((switched, told))
+        }
+        Err(_) => None,
+    }
+}
+
+#[test]
+fn a_flash_tells_its_counts_and_its_cut(rt: HostRuntime) -> Result<(), Fail> {
+    let mut page = PageBuf::new(rt.alloc())?;
+    let mut flash = flash_in(rt.alloc(), b'e', Way::Cut(0), &mut page)?;
+    let before = told(&flash);
+    let _ = make(&mut flash, Call::Probe, Ppn(0), &mut page);
+    let after = switched_beside_copy(rt.alloc(), &mut flash);
+    drop(flash);
+    assert_eq!(rt; before, (6, 0, true, None));
+    let cut = (7, 0, false, Some(2));
+    let switched = [cut, (7, 0, true, None), (7, 0, false, None)];
+    assert_eq!(rt; after, Some((switched, cut)));
+    Ok(())
+}
+
+// Whether a flash tells this plan.
+fn tells(alloc: Global, flash: &SimFlash, way: Way) -> Result<bool, NoMemory> {
+    let plan = plan_of(alloc, way)?;
+    let told = flash.plan_is(&plan);
+    drop(plan);
+    Ok(told)
+}
+
+// Whether a flash that is cut tells its own plan, and whether another's.
+fn plans_told(alloc: Global, flash: &SimFlash) -> Result<(bool, bool), NoMemory> {
+    Ok((
+        tells(alloc, flash, Way::Cut(0))?,
+        tells(alloc, flash, Way::Fails)?,
+    ))
+}
+
+#[test]
+fn a_flash_tells_its_plan(rt: HostRuntime) -> Result<(), Fail> {
+    let mut page = PageBuf::new(rt.alloc())?;
+    let flash = flash_in(rt.alloc(), b'e', Way::Cut(0), &mut page)?;
+    let told = plans_told(rt.alloc(), &flash);
+    drop(flash);
+    assert_eq!(rt; told?, (true, false));
+    Ok(())
 }
 
 // The first operation, an erase, is cut and spoils two pages. The seventh goes this way.
@@ -184,20 +229,19 @@ fn plan_of(alloc: Global, way: Way) -> Result<Plan, NoMemory>
 }
 
 // A flash after six operations, of which the first two pages of the second block are in this state.
-fn flash_in(alloc: Global, state: u8, way: Way) -> Result<SimFlash, NoMemory>
+fn flash_in(alloc: Global, state: u8, way: Way, page: &mut PageBuf) -> Result<SimFlash, NoMemory>
     ensures { IfOk result (λ flash. flash.blocks ≡ 8) }
 {
     let mut flash = SimFlash::new(alloc, &Geometry::default(), plan_of(alloc, way)?)?;
-    let mut page = PageBuf::new(alloc)?;
-    let _ = make(&mut flash, Call::Erase, Ppn(4), &mut page);
+    let _ = make(&mut flash, Call::Erase, Ppn(4), page);
     flash.power_up();
     if state != b's' {
-        let _ = make(&mut flash, Call::Erase, Ppn(4), &mut page);
-        bring(&mut flash, Ppn(4), state, &mut page);
-        bring(&mut flash, Ppn(5), state, &mut page);
+        let _ = make(&mut flash, Call::Erase, Ppn(4), page);
+        bring(&mut flash, Ppn(4), state, page);
+        bring(&mut flash, Ppn(5), state, page);
     }
     for _ in flash.operation_count()..6 {
-        let _ = make(&mut flash, Call::Probe, Ppn(0), &mut page);
+        let _ = make(&mut flash, Call::Probe, Ppn(0), page);
     }
     Ok(flash)
 }

@@ -13,7 +13,7 @@ use ff_evict::Picker;
 use ff_flash::{Flash, SimFlash};
 use ff_model::{Counts, Kind, Op, Piece, Reply};
 use ff_policy::Tuner;
-use rows::{LOSSES, ROWS, Row, Step};
+use rows::{LOSSES, Loss, ROWS, Row, Step};
 use std::alloc::Global;
 use std::test::Fail;
 
@@ -181,17 +181,24 @@ fn told(account: &Record) -> (u64, u64, Counts, Option<Back>) {
     )
 }
 
+// What room a core has, what a verify is answered, how many turns of the drainer did something, and what is held then.
+fn begun(core: &mut TestCore) -> ((u32, u32), Option<Reply>, u32, (u64, u32, u32, u8)) {
+    let room = (core.spare_calls(), core.spare_turns());
+    let verified = call(core, &Op::Verify);
+    let did = turns(core, Kind::Drain, 1);
+    (room, verified, did, held(core))
+}
+
 #[test]
 fn a_session_ends_in_its_record(rt: HostRuntime) -> Result<(), Fail> {
     let mut core = core_of(rt.alloc(), USUAL, Fault::Nothing)?;
-    assert_eq!(rt; (core.spare_calls(), core.spare_turns()), (32, 256));
-    assert_eq!(rt; call(&mut core, &Op::Verify), Some(Reply::Done));
-    assert_eq!(rt; turns(&mut core, Kind::Drain, 1), 0);
-    assert_eq!(rt; held(&core), (1, 1, 1, 1));
-    assert_eq!(rt; *core.geometry(), Geometry::default());
+    let begun = begun(&mut core);
+    let geometry = *core.geometry();
     let lost = power_off(core, 4);
     let told = told(&lost.account);
     drop(lost);
+    assert_eq!(rt; begun, ((32, 256), Some(Reply::Done), 0, (1, 1, 1, 1)));
+    assert_eq!(rt; geometry, Geometry::default());
     assert_eq!(rt; told, (0, 1, Counts::default(), Some(Back::Idle)));
     Ok(())
 }
@@ -234,18 +241,31 @@ fn left_by(alloc: Global, core: TestCore, arrive: u32) -> Result<(u32, u8, u8), 
     }
 }
 
+// Marks page 0 and stores to it, twice, with a verify between where that is asked. Whether each was answered done.
+fn stored_twice(core: &mut TestCore, verified: bool) -> [bool; 4] {
+    let marked = is_answered(core, &Step::Mark(0));
+    let first = is_answered(core, &Step::Store(0, &[0xaa]));
+    let seen = !verified || call(core, &Op::Verify) == Some(Reply::Done);
+    [
+        marked,
+        first,
+        seen,
+        is_answered(core, &Step::Store(1, &[0xbb])),
+    ]
+}
+
+// How both stores were answered, how many accesses of the device there were, and what a loss of power left.
+fn lost_of(alloc: Global, loss: &Loss) -> Result<([bool; 4], u64, (u32, u8, u8)), Fail> {
+    let mut core = core_of(alloc, USUAL, Fault::Nothing)?;
+    let stored = stored_twice(&mut core, loss.verified);
+    let device = core.counts().device;
+    Ok((stored, device, left_by(alloc, core, loss.arrive)?))
+}
+
 #[test]
 fn a_loss_of_power_keeps_what_arrived_and_was_acknowledged(rt: HostRuntime) -> Result<(), Fail> {
-    for row in LOSSES.iter() {
-        let mut core = core_of(rt.alloc(), USUAL, Fault::Nothing)?;
-        assert!(rt; is_answered(&mut core, &Step::Mark(0)));
-        assert!(rt; is_answered(&mut core, &Step::Store(0, &[0xaa])));
-        if row.verified {
-            assert_eq!(rt; call(&mut core, &Op::Verify), Some(Reply::Done));
-        }
-        assert!(rt; is_answered(&mut core, &Step::Store(1, &[0xbb])));
-        assert_eq!(rt; core.counts().device, 2);
-        assert_eq!(rt; left_by(rt.alloc(), core, row.arrive)?, row.left);
+    for loss in LOSSES.iter() {
+        assert_eq!(rt; lost_of(rt.alloc(), loss)?, ([true; 4], 2, loss.left));
     }
     Ok(())
 }

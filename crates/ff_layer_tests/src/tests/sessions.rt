@@ -138,17 +138,24 @@ fn promote_turn(core: &mut TestCore) -> Option<Back> {
     Some(core.promote_turn())
 }
 
+// What room there is, what a load is answered, how many turns are left then, and what a turn is answered, with the event
+// number behind it.
+fn spent(core: &mut TestCore) -> ((u32, u32), Option<Turn>, u32, Option<Back>, u64) {
+    let room = spare(core);
+    let load = turn(core, &Op::Load { at: 0, len: 8 });
+    let (_, left) = spare(core);
+    let back = promote_turn(core);
+    (room, load, left, back, core.events())
+}
+
 #[test]
 fn nothing_is_done_at_the_last_event_number(rt: HostRuntime) -> Result<(), Fail> {
     let first = core_of(rt.alloc(), USUAL, Fault::Nothing)?;
     let mut core = last(rt.alloc(), first).ok_or("a session behind it")?;
-    assert_eq!(rt; spare(&core), (2, 1));
-    let load = Op::Load { at: 0, len: 8 };
-    assert_eq!(rt; turn(&mut core, &load), Some(Turn::Served(Reply::Spent)));
-    assert_eq!(rt; spare(&core).1, 1);
-    assert_eq!(rt; promote_turn(&mut core), Some(Back::Spent));
-    assert_eq!(rt; core.events(), LAST_EVENT);
+    let spent = spent(&mut core);
     drop(core);
+    let load = Some(Turn::Served(Reply::Spent));
+    assert_eq!(rt; spent, ((2, 1), load, 1, Some(Back::Spent), LAST_EVENT));
     Ok(())
 }
 

@@ -24,25 +24,32 @@ fn rig_of(rt: &impl Abort, alloc: Global, geometry: &Geometry, fault: Fault) -> 
     StoreRig::new(alloc, geometry, fault).expect(rt, "want of memory")
 }
 
-fn make(rt: &impl Abort, rig: &mut StoreRig, page: &mut PageBuf, call: Call) {
+// Whether a call gives what it has to.
+fn is_made(rig: &mut StoreRig, page: &mut PageBuf, call: Call) -> bool {
     match call {
         Call::Flush(number, byte) => {
             fill(page, byte);
-            let sealed = FlushStep::Sealed(PageNo(number));
-            assert_eq!(rt; rig.flush(number, page), Some(Ok(sealed)));
+            rig.flush(number, page) == Some(Ok(FlushStep::Sealed(PageNo(number))))
         }
         Call::Fetch(number, byte) => {
-            assert_eq!(rt; rig.fetch(number, page), Some(Ok(())));
-            assert_eq!(rt; page.line(0)[0], byte, "page {number}");
+            rig.fetch(number, page) == Some(Ok(())) && page.line(0)[0] == byte
         }
-        Call::Collect(step) => assert_eq!(rt; rig.collect_step(), Some(Ok(step))),
+        Call::Collect(step) => rig.collect_step() == Some(Ok(step)),
     }
 }
 
-fn make_all(rt: &impl Abort, rig: &mut StoreRig, page: &mut PageBuf, calls: &[Call]) {
-    for &call in calls {
-        make(rt, rig, page, call);
+// The first call that gives something else.
+fn first_unlike(rig: &mut StoreRig, page: &mut PageBuf, calls: &[Call]) -> Option<usize> {
+    for (number, &call) in calls.iter().enumerate() {
+        if !is_made(rig, page, call) {
+            return Some(number);
+        }
     }
+    None
+}
+
+fn make_all(rt: &impl Abort, rig: &mut StoreRig, page: &mut PageBuf, calls: &[Call]) {
+    assert_eq!(rt; first_unlike(rig, page, calls), None);
 }
 
 // Seven stores before a cache of one page: a store flushes the page of the one before it, and fetches its own.
@@ -108,6 +115,21 @@ fn a_page_flushed_anew_keeps_its_bytes_over_a_commit(rt: HostRuntime) -> Result<
     Ok(())
 }
 
+// Whether each of three pages is flushed anew, and then fetched, with a byte.
+fn takes_each_anew(rig: &mut StoreRig, page: &mut PageBuf, byte: u8) -> bool {
+    for number in 0..3 {
+        if !is_made(rig, page, Call::Flush(number, byte)) {
+            return false;
+        }
+    }
+    for number in 0..3 {
+        if !is_made(rig, page, Call::Fetch(number, byte)) {
+            return false;
+        }
+    }
+    true
+}
+
 // Three blocks of two pages have room for three pages.
 #[test]
 fn a_full_store_takes_each_page_anew(rt: HostRuntime) -> Result<(), Fail> {
@@ -119,15 +141,40 @@ fn a_full_store_takes_each_page_anew(rt: HostRuntime) -> Result<(), Fail> {
     };
     let mut rig = rig_of(&rt, rt.alloc(), &geometry, Fault::Nothing);
     for turn in 0..4 {
-        for number in 0..3 {
-            make(&rt, &mut rig, &mut page, Call::Flush(number, 16 * turn + 1));
-        }
-        for number in 0..3 {
-            make(&rt, &mut rig, &mut page, Call::Fetch(number, 16 * turn + 1));
-        }
+        assert!(rt;
+            takes_each_anew(&mut rig, &mut page, 16 * turn + 1),
+            "turn {turn}"
+        );
     }
     drop(rig);
     Ok(())
+}
+
+// What a step of a flush gives, the page that is to be sealed, and whether page 3 is mapped.
+type Flushed = (Option<Result<FlushStep, FlashStop>>, Option<PageNo>, bool);
+
+// Programs page 3 and seals it.
+fn flushed_in_steps(rig: &mut StoreRig, page: &PageBuf) -> [Flushed; 2] {
+    let programmed = rig.flush_step(3, page);
+    let (pending, mapped) = waiting(rig);
+    let sealed = rig.seal_step();
+    let (none, last) = waiting(rig);
+    [(programmed, pending, mapped), (sealed, none, last)]
+}
+
+// The page that is to be sealed, and whether page 3 is mapped.
+fn waiting(rig: &StoreRig) -> (Option<PageNo>, bool) {
+    (rig.store().pending(), rig.store().is_mapped(PageNo(3)))
+}
+
+// Whether each call is answered so that the power is off.
+fn are_off(rig: &mut StoreRig, page: &mut PageBuf) -> [bool; 3] {
+    rig.power_off();
+    [
+        rig.flush(3, page) == Some(Err(FlashStop::Off)),
+        rig.fetch(3, page) == Some(Err(FlashStop::Off)),
+        rig.collect_step() == Some(Err(FlashStop::Off)),
+    ]
 }
 
 #[test]
@@ -135,19 +182,12 @@ fn a_page_is_mapped_when_it_is_sealed(rt: HostRuntime) -> Result<(), Fail> {
     let mut page = PageBuf::new(rt.alloc())?;
     let mut rig = rig_of(&rt, rt.alloc(), &SMALL, Fault::Nothing);
     fill(&mut page, 0xa3);
-    assert_eq!(rt; rig.flush_step(3, &page), Some(Ok(FlushStep::Programmed)));
-    assert_eq!(rt; waiting(&rig), (Some(PageNo(3)), false));
-    assert_eq!(rt; rig.seal_step(), Some(Ok(FlushStep::Sealed(PageNo(3)))));
-    assert_eq!(rt; waiting(&rig), (None, true));
-    rig.power_off();
-    assert_eq!(rt; rig.flush(3, &page), Some(Err(FlashStop::Off)));
-    assert_eq!(rt; rig.fetch(3, &mut page), Some(Err(FlashStop::Off)));
-    assert_eq!(rt; rig.collect_step(), Some(Err(FlashStop::Off)));
-    assert!(rt; !rig.into_store().into_flash().is_on());
+    let flushed = flushed_in_steps(&mut rig, &page);
+    let off = are_off(&mut rig, &mut page);
+    let on = rig.into_store().into_flash().is_on();
+    let programmed = (Some(Ok(FlushStep::Programmed)), Some(PageNo(3)), false);
+    let sealed = (Some(Ok(FlushStep::Sealed(PageNo(3)))), None, true);
+    assert_eq!(rt; flushed, [programmed, sealed]);
+    assert_eq!(rt; (off, on), ([true; 3], false));
     Ok(())
-}
-
-// The page that is to be sealed, and whether page 3 is mapped.
-fn waiting(rig: &StoreRig) -> (Option<PageNo>, bool) {
-    (rig.store().pending(), rig.store().is_mapped(PageNo(3)))
 }

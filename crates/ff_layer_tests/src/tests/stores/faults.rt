@@ -5,7 +5,6 @@ use crate::tests::plans::{Fault, SMALL, STORES, fill, set_byte};
 use ff_base::{PageBuf, PageNo};
 use ff_flash::{Flash, FlashStop};
 use ff_store::FlushStep;
-use std::process::Abort;
 use std::test::Fail;
 
 // How many of the stores are flushed.
@@ -14,15 +13,19 @@ const FLUSHED: usize = 7;
 // A program and a seal each, and a read, a program, a seal and an erase of the collection.
 const OPERATIONS: u32 = 18;
 
-fn check_bytes(rt: &impl Abort, rig: &mut StoreRig, page: &mut PageBuf, wanted: &[u8; 5]) {
+// Whether each page is fetched with the byte that is wanted.
+fn has_bytes(rig: &mut StoreRig, page: &mut PageBuf, wanted: &[u8; 5]) -> bool {
     for (number, byte) in wanted.iter().enumerate() {
-        assert_eq!(rt; rig.fetch(number as u32, page), Some(Ok(())));
-        assert_eq!(rt; page.line(0)[0], *byte, "page {number}");
+        if rig.fetch(number as u32, page) != Some(Ok(())) || page.line(0)[0] != *byte {
+            return false;
+        }
     }
+    true
 }
 
-// Makes the flushes, and again one that fails. The answer is whether one did.
-fn flush_all(rt: &impl Abort, rig: &mut StoreRig, page: &mut PageBuf) -> bool {
+// Makes the flushes, and again one that fails. The answer is whether one did, and none where a flush that is made again
+// fails, or a page has other bytes.
+fn flush_all(rig: &mut StoreRig, page: &mut PageBuf) -> Option<bool> {
     let mut wanted = [0; 5];
     let mut failed = false;
     for (number, byte) in &STORES[..FLUSHED] {
@@ -31,14 +34,21 @@ fn flush_all(rt: &impl Abort, rig: &mut StoreRig, page: &mut PageBuf) -> bool {
         let sealed = Some(Ok(FlushStep::Sealed(PageNo(number))));
         if rig.flush(number, page) != sealed {
             failed = true;
-            check_bytes(rt, rig, page, &wanted);
+            if !has_bytes(rig, page, &wanted) {
+                return None;
+            }
             fill(page, byte);
-            assert_eq!(rt; rig.flush(number, page), sealed);
+            if rig.flush(number, page) != sealed {
+                return None;
+            }
         }
         set_byte(&mut wanted, number, byte);
     }
-    check_bytes(rt, rig, page, &wanted);
-    failed
+    if has_bytes(rig, page, &wanted) {
+        Some(failed)
+    } else {
+        None
+    }
 }
 
 #[test]
@@ -46,9 +56,9 @@ fn a_flush_that_failed_leaves_the_old_bytes(rt: HostRuntime) -> Result<(), Fail>
     let mut page = PageBuf::new(rt.alloc())?;
     for made in 0..OPERATIONS {
         let mut rig = rig_of(&rt, rt.alloc(), &SMALL, Fault::Fail(made));
-        let failed = flush_all(&rt, &mut rig, &mut page);
+        let failed = flush_all(&mut rig, &mut page);
         drop(rig);
-        assert!(rt; failed, "after {made}");
+        assert_eq!(rt; failed, Some(true), "after {made}");
     }
     Ok(())
 }
@@ -70,6 +80,21 @@ fn flush_until_cut(rig: &mut StoreRig, page: &mut PageBuf, mask: u32) -> [u8; 5]
     wanted
 }
 
+// What a flash has after a cut: how many operations were begun, whether the newest pages have the bytes that are wanted,
+// and whether a block can be erased.
+fn found_after(rig: StoreRig, page: &mut PageBuf, wanted: [u8; 5]) -> (u64, bool, bool) {
+    let mut flash = rig.into_store().into_flash();
+    let count = flash.operation_count();
+    flash.power_up();
+    let found = Found::of(&mut flash, page);
+    drop(flash);
+    (
+        count,
+        found.best_bytes() == wanted,
+        found.has_covered_block(),
+    )
+}
+
 #[test]
 fn a_cut_leaves_what_is_stored(rt: HostRuntime) -> Result<(), Fail> {
     let mut page = PageBuf::new(rt.alloc())?;
@@ -77,15 +102,24 @@ fn a_cut_leaves_what_is_stored(rt: HostRuntime) -> Result<(), Fail> {
         for mask in [0, 1, 3] {
             let mut rig = rig_of(&rt, rt.alloc(), &SMALL, Fault::Cut(made, mask));
             let wanted = flush_until_cut(&mut rig, &mut page, mask);
-            let mut flash = rig.into_store().into_flash();
-            assert_eq!(rt; flash.operation_count(), u64::from(made) + 1);
-            flash.power_up();
-            let found = Found::of(&mut flash, &mut page);
-            assert_eq!(rt; found.best_bytes(), wanted, "after {made} with {mask}");
-            assert!(rt; found.has_covered_block(), "after {made} with {mask}");
+            let found = found_after(rig, &mut page, wanted);
+            let count = u64::from(made) + 1;
+            assert_eq!(rt; found, (count, true, true), "after {made} with {mask}");
         }
     }
     Ok(())
+}
+
+// What a mount after a cut gives: how many operations were begun, whether the pages have the bytes that are wanted, and
+// whether a flush fails that is made now.
+fn served_after(
+    rig: &mut StoreRig,
+    page: &mut PageBuf,
+    wanted: &[u8; 5],
+) -> (u64, bool, Option<bool>) {
+    let count = rig.store().flash().operation_count();
+    let kept = has_bytes(rig, page, wanted);
+    (count, kept, flush_all(rig, page))
 }
 
 #[test]
@@ -98,12 +132,14 @@ fn a_mount_finds_what_is_stored(rt: HostRuntime) -> Result<(), Fail> {
             let mut rig = rig
                 .remount(rt.alloc())
                 .expect(&rt, "a mount that was refused");
-            let probed = u64::from(made) + 1 + 8;
-            assert_eq!(rt; rig.store().flash().operation_count(), probed);
-            check_bytes(&rt, &mut rig, &mut page, &wanted);
-            let failed = flush_all(&rt, &mut rig, &mut page);
+            let served = served_after(&mut rig, &mut page, &wanted);
             drop(rig);
-            assert!(rt; !failed, "after {made} with {mask}");
+            let probed = u64::from(made) + 1 + 8;
+            assert_eq!(rt;
+                served,
+                (probed, true, Some(false)),
+                "after {made} with {mask}"
+            );
         }
     }
     Ok(())
