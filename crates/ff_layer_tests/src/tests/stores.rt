@@ -150,16 +150,12 @@ fn a_full_store_takes_each_page_anew(rt: HostRuntime) -> Result<(), Fail> {
     Ok(())
 }
 
-// What a step of a flush gives, the page that is to be sealed, and whether page 3 is mapped.
-type Flushed = (Option<Result<FlushStep, FlashStop>>, Option<PageNo>, bool);
-
-// Programs page 3 and seals it.
-fn flushed_in_steps(rig: &mut StoreRig, page: &PageBuf) -> [Flushed; 2] {
-    let programmed = rig.flush_step(3, page);
-    let (pending, mapped) = waiting(rig);
-    let sealed = rig.seal_step();
-    let (none, last) = waiting(rig);
-    [(programmed, pending, mapped), (sealed, none, last)]
+// Whether page 3 is programmed and then waits, and whether it is sealed and then mapped.
+fn is_flushed_in_steps(rig: &mut StoreRig, page: &PageBuf) -> [bool; 4] {
+    let programmed = rig.flush_step(3, page) == Some(Ok(FlushStep::Programmed));
+    let waits = waiting(rig) == (Some(PageNo(3)), false);
+    let sealed = rig.seal_step() == Some(Ok(FlushStep::Sealed(PageNo(3))));
+    [programmed, waits, sealed, waiting(rig) == (None, true)]
 }
 
 // The page that is to be sealed, and whether page 3 is mapped.
@@ -182,12 +178,9 @@ fn a_page_is_mapped_when_it_is_sealed(rt: HostRuntime) -> Result<(), Fail> {
     let mut page = PageBuf::new(rt.alloc())?;
     let mut rig = rig_of(&rt, rt.alloc(), &SMALL, Fault::Nothing);
     fill(&mut page, 0xa3);
-    let flushed = flushed_in_steps(&mut rig, &page);
+    let flushed = is_flushed_in_steps(&mut rig, &page);
     let off = are_off(&mut rig, &mut page);
     let on = rig.into_store().into_flash().is_on();
-    let programmed = (Some(Ok(FlushStep::Programmed)), Some(PageNo(3)), false);
-    let sealed = (Some(Ok(FlushStep::Sealed(PageNo(3)))), None, true);
-    assert_eq!(rt; flushed, [programmed, sealed]);
-    assert_eq!(rt; (off, on), ([true; 3], false));
+    assert_eq!(rt; (flushed, off, on), ([true; 4], [true; 3], false));
     Ok(())
 }

@@ -198,13 +198,16 @@ fn choice_of_none(alloc: Global) -> Result<Option<u32>, Fail> {
     Ok(evictor_at(&frames, 0).choose(&frames, &buffer))
 }
 
+fn hands(alloc: Global) -> Result<[u32; 3], Fail> {
+    Ok([hand_at(alloc, 0)?, hand_at(alloc, 3)?, hand_at(alloc, 4)?])
+}
+
 #[test]
 fn the_hand_goes_round(rt: HostRuntime) -> Result<(), Fail> {
-    assert_eq!(rt; choice_of_none(rt.alloc())?, None);
-    for (frame, hand) in [(0, 0), (3, 3), (4, 0)] {
-        assert_eq!(rt; hand_at(rt.alloc(), frame)?, hand);
-    }
+    let found = (hands(rt.alloc())?, choice_of_none(rt.alloc())?);
     let picker = Evictor::new(Picker::new(ByDirty)).into_picker();
-    assert_eq!(rt; picker.score(true, 3), 131);
+    let score = picker.score(true, 3);
+    drop(picker);
+    assert_eq!(rt; (found, score), (([0, 3, 0], None), 131));
     Ok(())
 }

@@ -13,6 +13,10 @@ fn take(frames: &mut Frames, page: u32) -> Option<u32> {
     frames.take(PageNo(page))
 }
 
+fn taken(frames: &mut Frames) -> [Option<u32>; 3] {
+    [take(frames, 7), take(frames, 8), take(frames, 9)]
+}
+
 // Whether a frame is given back, since it is taken.
 fn is_given_back(frames: &mut Frames, frame: u32) -> bool {
     if frame >= frames.len() || frames.page(frame).is_none() {
@@ -58,15 +62,19 @@ enum Change {
 #[test]
 fn the_least_free_frame_is_taken(rt: HostRuntime) -> Result<(), Fail> {
     let mut frames = Frames::new(rt.alloc(), 2)?;
-    assert_eq!(rt; fullness(&frames), (2, 2, false));
-    for (page, frame) in [(7, Some(0)), (8, Some(1)), (9, None)] {
-        assert_eq!(rt; take(&mut frames, page), frame);
-    }
-    assert_eq!(rt; fullness(&frames), (2, 0, true));
-    assert!(rt; is_given_back(&mut frames, 0));
-    assert_eq!(rt; fullness(&frames), (2, 1, false));
-    assert_eq!(rt; state(&frames, 0), Some((None, 0, false)));
-    assert_eq!(rt; take(&mut frames, 5), Some(0));
+    let before = fullness(&frames);
+    let taken = taken(&mut frames);
+    let full = fullness(&frames);
+    let given = is_given_back(&mut frames, 0);
+    let left = (fullness(&frames), state(&frames, 0));
+    let again = take(&mut frames, 5);
+    drop(frames);
+    assert_eq!(rt; [before, full], [(2, 2, false), (2, 0, true)]);
+    assert_eq!(rt; (taken, again), ([Some(0), Some(1), None], Some(0)));
+    assert_eq!(rt;
+        (given, left),
+        (true, ((2, 1, false), Some((None, 0, false))))
+    );
     Ok(())
 }
 
@@ -85,17 +93,26 @@ fn line_of(first: u8, last: [u8; 2]) -> [u8; LINE_BYTES] {
     line
 }
 
+// The first change after which the line or its frame is otherwise.
+fn first_other(frames: &mut Frames) -> Option<usize> {
+    for (number, (change, first, last, dirty, referred)) in CHANGES.iter().enumerate() {
+        let line = line_after(frames, *change);
+        let wanted = Some((Some(PageNo(8)), *dirty, *referred));
+        if line != Some(line_of(*first, *last)) || state(frames, 1) != wanted {
+            return Some(number);
+        }
+    }
+    None
+}
+
 #[test]
 fn a_stored_line_is_dirty(rt: HostRuntime) -> Result<(), Fail> {
     let mut frames = Frames::new(rt.alloc(), 2)?;
     let _ = take(&mut frames, 7);
     let _ = take(&mut frames, 8);
-    for (change, first, last, dirty, referred) in CHANGES.iter() {
-        let line = line_after(&mut frames, *change);
-        assert_eq!(rt; line, Some(line_of(*first, *last)));
-        let wanted = (Some(PageNo(8)), *dirty, *referred);
-        assert_eq!(rt; state(&frames, 1), Some(wanted));
-    }
-    assert_eq!(rt; state(&frames, 0), Some((Some(PageNo(7)), 0, false)));
+    let other = first_other(&mut frames);
+    let first = state(&frames, 0);
+    drop(frames);
+    assert_eq!(rt; (other, first), (None, Some((Some(PageNo(7)), 0, false))));
     Ok(())
 }

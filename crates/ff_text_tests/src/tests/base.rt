@@ -1,31 +1,60 @@
 // Pages, marks and the bounds of a geometry.
+ghost use Rattle.std.specs.Prelude.{◌<◌, length};
+
 use ff_base::{Geometry, Limit, LimitName, Marks, PageBuf, PageNo};
 use std::test::Fail;
+
+fn line_of(page: &PageBuf, line: u8) -> Option<[u8; 64]> {
+    if line < 64 {
+        Some(page.line(line))
+    } else {
+        None
+    }
+}
 
 #[test]
 fn a_new_page_is_zeros_and_keeps_a_line(rt: HostRuntime) -> Result<(), Fail> {
     let mut page = PageBuf::new(rt.alloc())?;
-    assert_eq!(rt; page.line(63), [0; 64]);
+    let last = line_of(&page, 63);
     page.set_line(1, &[7; 64]);
-    assert_eq!(rt; page.line(1), [7; 64]);
-    assert_eq!(rt; page.line(0), [0; 64]);
+    let kept = [line_of(&page, 0), line_of(&page, 1)];
     let copy = page.copy(rt.alloc())?;
     page.clear();
-    assert_eq!(rt; copy.line(1), [7; 64]);
-    assert_eq!(rt; page.line(1), [0; 64]);
+    let left = [line_of(&page, 1), line_of(&copy, 1)];
+    drop(copy);
+    drop(page);
+    let (zeros, sevens) = (Some([0; 64]), Some([7; 64]));
+    assert_eq!(rt;
+        (last, kept, left),
+        (zeros, [zeros, sevens], [zeros, sevens])
+    );
     Ok(())
+}
+
+fn lines_of(marks: &Marks, page: u32) -> u64
+    requires { page < length marks.now }
+{
+    marks.lines(PageNo(page))
 }
 
 #[test]
 fn marks_are_kept_by_page(rt: HostRuntime) -> Result<(), Fail> {
     let mut marks = Marks::new(rt.alloc(), 3)?;
-    assert_eq!(rt; marks.lines(PageNo(2)), 0);
+    let before = lines_of(&marks, 2);
     marks.set_lines(PageNo(1), 0x8000_0000_0000_0001);
     marks.set_lines(PageNo(2), 6);
     marks.set_lines(PageNo(2), 5);
-    assert_eq!(rt; marks.lines(PageNo(0)), 0);
-    assert_eq!(rt; marks.lines(PageNo(1)), 0x8000_0000_0000_0001);
-    assert_eq!(rt; marks.copy(rt.alloc())?.lines(PageNo(2)), 5);
+    let copy = marks.copy(rt.alloc())?;
+    let found = [
+        before,
+        lines_of(&marks, 0),
+        lines_of(&marks, 1),
+        lines_of(&copy, 2),
+    ];
+    drop(copy);
+    drop(marks);
+    let wanted = [0, 0, 0x8000_0000_0000_0001, 5];
+    assert_eq!(rt; found, wanted);
     Ok(())
 }
 

@@ -68,19 +68,37 @@ static BYTES: [(u32, u8); 7] = [
     (8192, 0),
 ];
 
+// Appends the stores and a verify, if there is room for them.
+fn push_all(history: &mut History) -> bool {
+    for (at, bytes, is_done) in STORES.iter() {
+        if !push_store(history, *at, bytes, *is_done) {
+            return false;
+        }
+    }
+    push(history, Op::Verify, Reply::Done)
+}
+
+// The first address that has another byte.
+fn first_unlike(base: &Image, history: &History) -> Option<u32> {
+    for (at, byte) in BYTES.iter() {
+        if flat_byte(base, history, *at) != *byte {
+            return Some(*at);
+        }
+    }
+    None
+}
+
 #[test]
 fn the_latest_done_store_gives_a_byte(rt: HostRuntime) -> Result<(), Fail> {
     let base = Image::new(rt.alloc(), 2)?;
     let mut history = History::new(rt.alloc(), 5)?;
-    assert!(rt; history.is_empty());
-    for (at, bytes, is_done) in STORES.iter() {
-        assert!(rt; push_store(&mut history, *at, bytes, *is_done));
-    }
-    assert!(rt; push(&mut history, Op::Verify, Reply::Done));
-    assert!(rt; ends_in_verify(&history, 5));
-    for (at, byte) in BYTES.iter() {
-        assert_eq!(rt; flat_byte(&base, &history, *at), *byte, "at {at}");
-    }
+    let is_empty = history.is_empty();
+    let pushed = push_all(&mut history);
+    let ends = ends_in_verify(&history, 5);
+    let unlike = first_unlike(&base, &history);
+    drop(history);
+    drop(base);
+    assert_eq!(rt; (is_empty, pushed, ends, unlike), (true, true, true, None));
     Ok(())
 }
 
@@ -122,17 +140,38 @@ fn is_store_in_range(at: u32, bytes: &[u8]) -> bool {
     bytes.len() <= 64 && store(at, bytes).is_in_range(16)
 }
 
+// The first address of a span that is found otherwise.
+fn first_other_span() -> Option<u32> {
+    for (at, len, is_in_range) in SPANS.iter() {
+        if is_load_in_range(*at, *len) != *is_in_range {
+            return Some(*at);
+        }
+    }
+    None
+}
+
+// The first lines that are found otherwise.
+fn first_other_lines() -> Option<(u32, u32, u32)> {
+    for (page, from, count, is_in_range) in LINES.iter() {
+        if are_lines_in_range(*page, *from, *count) != (*is_in_range, *is_in_range) {
+            return Some((*page, *from, *count));
+        }
+    }
+    None
+}
+
 #[test]
 fn a_call_is_in_range_within_a_line_and_the_pages(rt: HostRuntime) {
-    for (at, len, is_in_range) in SPANS.iter() {
-        assert_eq!(rt; is_load_in_range(*at, *len), *is_in_range, "at {at}");
-    }
-    for (page, from, count, is_in_range) in LINES.iter() {
-        let found = are_lines_in_range(*page, *from, *count);
-        assert_eq!(rt; found, (*is_in_range, *is_in_range));
-    }
-    assert!(rt; Op::Verify.is_in_range(16) && is_store_in_range(63, &[1]));
-    assert!(rt; !is_store_in_range(63, &[1, 2]) && !is_store_in_range(63, &[]));
+    assert_eq!(rt; (first_other_span(), first_other_lines()), (None, None));
+    let stores = [
+        is_store_in_range(63, &[1]),
+        is_store_in_range(63, &[1, 2]),
+        is_store_in_range(63, &[]),
+    ];
+    assert_eq!(rt;
+        (stores, Op::Verify.is_in_range(16)),
+        ([true, false, false], true)
+    );
 }
 
 // An image of two pages, of which the second is held.
@@ -160,21 +199,31 @@ fn told(image: &Image, page: u32) -> Option<Told> {
     Some((image.holds(page), image.marks(page), line))
 }
 
+fn copied(alloc: Global) -> Result<Image, NoMemory> {
+    let image = two_pages(alloc)?;
+    let copy = image.copy(alloc);
+    drop(image);
+    copy
+}
+
 #[test]
 fn a_new_image_holds_nothing(rt: HostRuntime) -> Result<(), Fail> {
     let image = Image::new(rt.alloc(), 2)?;
-    assert_eq!(rt; told(&image, 1), Some((false, 0, None)));
-    assert_eq!(rt; image.byte(8191), 0);
+    let found = (told(&image, 1), image.byte(8191));
+    drop(image);
+    assert_eq!(rt; found, (Some((false, 0, None)), 0));
     Ok(())
 }
 
 #[test]
 fn an_image_holds_pages_and_marks(rt: HostRuntime) -> Result<(), Fail> {
-    let copy = two_pages(rt.alloc())?.copy(rt.alloc())?;
-    let found = (copy.pages(), told(&copy, 0), told(&copy, 1));
+    let copy = copied(rt.alloc())?;
+    let pages = (copy.pages(), copy.byte(4096 + 64));
+    let found = (told(&copy, 0), told(&copy, 1));
+    drop(copy);
     let second = (true, 0, Some([7; 64]));
-    assert_eq!(rt; found, (2, Some((false, 5, None)), Some(second)));
-    assert_eq!(rt; copy.byte(4096 + 64), 7);
+    assert_eq!(rt; pages, (2, 7));
+    assert_eq!(rt; found, (Some((false, 5, None)), Some(second)));
     Ok(())
 }
 
