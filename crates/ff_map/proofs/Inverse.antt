@@ -1,9 +1,9 @@
 -- The list of mappings and the list of owners stay each other's inverse.
-use Rattle.std.proofs.Common.{◌≡◌, ◌≢◌, ℕ, ◌<◌, List, length, get_or, set, Option, None, Some, inl, inr, refl, sym, ap, ◌∙◌, arith, length-set}
+use Rattle.std.proofs.Common.{◌≡◌, ◌≢◌, ℕ, ◌<◌, List, length, get_or, set, replicate, Option, None, Some, inl, inr, refl, sym, ap, ◌∙◌, arith, length-set}
 use Rattle.std.specs.Prelude.{option_map}
 use Rattle.std.proofs.lemmas.Bool.{cases_eq, cases_lt}
 use Rattle.std.proofs.lemmas.Grind.{get_or-set_at}
-use Rattle.std.proofs.lemmas.List.{get_or-set_other, get_or_past}
+use Rattle.std.proofs.lemmas.List.{get_or-replicate, get_or-set_other, get_or_past, length-replicate}
 use Rattle.std.proofs.lemmas.Option.{same_Some, none-some}
 use Rattle.ff_base.specs.Geometry.{IsAllowed}
 use Rattle.ff_base.specs.declared.limits.LimitName.TheVariants.{FlashPages, Pages}
@@ -132,3 +132,19 @@ inverse_after pages owners page new inverse page_within at_within free =
             ∙ inverse.mapped other at kept.0
       ];
     }
+
+none_there : {X : Type 0} (n k : ℕ) → get_or (replicate n (let none : Option X = None in none)) k None ≡ None
+none_there {X} n k =
+    let none : Option X = None in
+    elim (cases_lt k n) [
+      | inl within ↦ get_or-replicate n k none none within
+      | inr past ↦ get_or_past (replicate n none) k none (let size = length-replicate n none in omega (arith, size, past))
+    ]
+
+-- where no page is mapped, no place has an owner
+pub blank_inverse : (pages places : ℕ) → IsInverse (replicate pages None) (replicate places None)
+blank_inverse pages places = record {
+  owned = λ page at there. absurd (none-some at
+      (sym (ap (λ (m : Option Mapping). option_map (λ (x : Mapping). x.at) m) (none_there pages page.0)) ∙ there));
+  mapped = λ page at there. absurd (none-some page (sym (none_there places at.0) ∙ there));
+}
