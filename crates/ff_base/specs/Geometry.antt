@@ -89,6 +89,11 @@ rank_of Low = 8
 rank_of FlashPages = 9
 rank_of CacheWays = 10
 
+-- the numbers before this position are within their bounds
+abbrev pub AreAllowedBelow : Geometry → ℕ → Type 0
+AreAllowedBelow g count =
+    (name : LimitName) → rank_of name < count → IsAllowed name (value_of g name)
+
 -- the first number that is out of its bounds
 pub record IsFirstBroken (g : Geometry) (limit : Limit) : Type 0 where
   pub told : limit ≡ limit_of g limit.name

@@ -1,8 +1,21 @@
 // The sizes of the simulated device, and the check of their bounds.
 ghost use Rattle.std.specs.Prelude.{◌≡◌, ◌<◌, IfErr, OnOk};
-ghost use Rattle.ff_base.specs.Geometry.{IsAllowed, IsFirstBroken, IsWithinLimits, capacity_of, default_geometry, greatest_of, least_of};
+ghost use Rattle.ff_base.specs.Geometry.{AreAllowedBelow, IsAllowed, IsFirstBroken, IsWithinLimits, capacity_of, default_geometry, greatest_of, least_of};
 
 use crate::limits::{Limit, LimitName};
+
+// The numbers that are no products, in the order of `LimitName`.
+const NUMBERS: [LimitName; 9] = [
+    LimitName::Blocks,
+    LimitName::PerBlock,
+    LimitName::Pages,
+    LimitName::Sets,
+    LimitName::Ways,
+    LimitName::Frames,
+    LimitName::Plb,
+    LimitName::Window,
+    LimitName::Low,
+];
 
 /// The sizes of the simulated device and of the host memory before it.
 #[derive(Clone, Copy, Debug, PartialEq, Eq)]
@@ -34,17 +47,32 @@ impl Geometry {
         ensures ok { OnOk result (IsWithinLimits self.now) }
         ensures err { IfErr result (IsFirstBroken self.now) }
     {
-        within(LimitName::Blocks, self.blocks)?;
-        within(LimitName::PerBlock, self.per_block)?;
-        within(LimitName::Pages, self.pages)?;
-        within(LimitName::Sets, self.sets)?;
-        within(LimitName::Ways, self.ways)?;
-        within(LimitName::Frames, self.frames)?;
-        within(LimitName::Plb, self.plb)?;
-        within(LimitName::Window, self.window)?;
-        within(LimitName::Low, self.low)?;
+        self.check_numbers()?;
         within(LimitName::FlashPages, self.blocks * self.per_block)?;
         within(LimitName::CacheWays, self.sets * self.ways)
+    }
+
+    // The numbers alone, whose bounds keep the products small. A loop over a table, as each further step of
+    // a chain would be proved with all that is before it.
+    fn check_numbers(&self) -> Result<(), Limit>
+        ensures ok { OnOk result (AreAllowedBelow self.now 9) }
+        ensures err { IfErr result (IsFirstBroken self.now) }
+    {
+        let values = [
+            self.blocks,
+            self.per_block,
+            self.pages,
+            self.sets,
+            self.ways,
+            self.frames,
+            self.plb,
+            self.window,
+            self.low,
+        ];
+        for i in 0..9 {
+            within(NUMBERS[i], values[i])?;
+        }
+        Ok(())
     }
 
     /// How many logical pages the flash can hold and still be collected.
