@@ -1,2 +1,3 @@
+mod Olders
 mod Raised
 mod Victims
