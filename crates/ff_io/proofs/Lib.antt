@@ -1,1 +1,2 @@
+mod FailingCalls
 pub mod Written
