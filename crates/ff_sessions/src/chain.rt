@@ -204,17 +204,22 @@ fn run_all<T: Tune + Drop, E: Pick + Drop>(
 {
     let mut running = first;
     for _ in 0..MOST_SESSIONS {
-        let Step { session, next } = next_session(alloc, running, rows, geometry)?;
+        let Step { session, next } = match next_session(alloc, running, rows, geometry) {
+            Ok(step) => step,
+            Err(NoMemory) => return Err(NoMemory),
+        };
         match sessions.push(session) {
-            Ok(()) => match next {
-                Some(later) => running = later,
-                None => return Ok(()),
-            },
-            Err(_) => {
+            Ok(()) => {}
+            Err(session) => {
+                drop(session);
                 drop(next);
                 return Err(NoMemory);
             }
         }
+        let Some(later) = next else {
+            return Ok(());
+        };
+        running = later;
     }
     unreachable!()
 }

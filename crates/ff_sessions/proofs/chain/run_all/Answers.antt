@@ -15,18 +15,18 @@ pub next_session-requires-clause-may_run : goal.next_session-requires-clause-may
 next_session-requires-clause-may_run g c =
     may_step (setup_in c.args.first.core) c.args.rows.now c.loop.sessions.items c.loop.running c.loop.invariant.running
 
-pub returns-in-None-clause-sessions : goal.returns-in-None-clause-sessions
-returns-in-None-clause-sessions g c =
-    rw c.in-Ok.ensures.items (runs_out (setup_in c.args.first.core) c.args.rows.now
-    c.loop.sessions.items c.loop.running c.in_ok-session.field-0 c.loop.invariant.running c.in_ok-session.ensures c.in-None.is)
+pub returns-in_default-clause-sessions : goal.returns-in_default-clause-sessions
+returns-in_default-clause-sessions g c =
+    rw c.in-Ok-push.ensures.items (runs_out (setup_in c.args.first.core) c.args.rows.now
+    c.loop.sessions.items c.loop.running c.in-Ok.step c.loop.invariant.running c.in-Ok.ensures c.in_default.is)
 
 pub loop-preserved : goal.loop-preserved
 loop-preserved g c =
-    let pushed = c.in-Ok.ensures.items in
+    let pushed = c.in-Ok-push.ensures.items in
     record {
       running = rw pushed (runs_on (setup_in c.args.first.core) c.args.rows.now
-          c.loop.sessions.items c.loop.running c.in_ok-session.field-0 c.in-Some.later c.loop.invariant.running c.in_ok-session.ensures
+          c.loop.sessions.items c.loop.running c.in-Ok.step c.in-Some.later c.loop.invariant.running c.in-Ok.ensures
           c.in-Some.is);
-      count = count_more c.loop.sessions.items c.push.new.self.items c.in_ok-session.field-0.session c.loop.counter pushed
+      count = count_more c.loop.sessions.items c.push.new.self.items c.in-Ok.step.session c.loop.counter pushed
           c.loop.invariant.count;
     }
