@@ -60,7 +60,10 @@ fn call(
 ) -> Result<Outcome, NoMemory> {
     let words = words(alloc, line)?;
     let mut source = MemorySource::new(input.to_vec(alloc)?, vec![in alloc; failing_read]?);
-    Ok(schedule(alloc, &words, &mut source, sink, tuner(), picker()))
+    let outcome = schedule(alloc, &words, &mut source, sink, tuner(), picker());
+    drop(source);
+    drop(words);
+    Ok(outcome)
 }
 
 fn sink(alloc: Global, failing_write: u64) -> Result<MemorySink, NoMemory> {
@@ -98,12 +101,21 @@ fn call_with(
     failing_write: u64,
 ) -> Result<Came, NoMemory> {
     let mut sink = sink(alloc, failing_write)?;
-    let outcome = call(alloc, line, input, failing_read, &mut sink)?;
-    Ok(Came {
-        status: outcome.status,
-        sessions: outcome.sessions.len(),
-        sink,
-    })
+    match call(alloc, line, input, failing_read, &mut sink) {
+        Ok(outcome) => {
+            let (status, sessions) = (outcome.status, outcome.sessions.len());
+            drop(outcome);
+            Ok(Came {
+                status,
+                sessions,
+                sink,
+            })
+        }
+        Err(NoMemory) => {
+            drop(sink);
+            Err(NoMemory)
+        }
+    }
 }
 
 // What a schedule of an input comes to.
@@ -117,6 +129,7 @@ fn check_cases(rt: &impl Abort, alloc: Global, cases: &[Case]) -> Result<(), NoM
         let came = scheduled(alloc, input.as_bytes())?;
         let wanted = (*status, sessions_in(text), text.as_bytes());
         assert_eq!(rt; came.told(), wanted, "case {at}");
+        drop(came);
     }
     Ok(())
 }
@@ -164,6 +177,7 @@ fn other_words_are_refused(rt: HostRuntime) -> Result<(), Fail> {
     ] {
         let came = call_with(rt.alloc(), line, FIRST, 0, 0)?;
         assert_eq!(rt; came.told(), (1, 0, USAGE_TEXT), "{line}");
+        drop(came);
     }
     Ok(())
 }
@@ -193,6 +207,7 @@ fn each_failing_read_is_a_read_fault(rt: HostRuntime) -> Result<(), Fail> {
         let came = call_with(rt.alloc(), "flatflash schedule", FIRST, failing_read, 0)?;
         let wanted = (4, 0, b"read fault\n".as_slice());
         assert_eq!(rt; came.told(), wanted, "at read {failing_read}");
+        drop(came);
     }
     Ok(())
 }
@@ -217,9 +232,12 @@ fn each_failing_write_leaves_a_prefix(rt: HostRuntime) -> Result<(), Fail> {
         let text = lines_before(rt.alloc(), line)?;
         let came = cut_off(rt.alloc(), FIRST, line as u64 + 1)?;
         assert_eq!(rt; came.told(), (5, 1, text.as_slice()), "at line {line}");
+        drop(came);
+        drop(text);
     }
     let came = cut_off(rt.alloc(), b"", 1)?;
     assert_eq!(rt; came.told(), (5, 0, b"".as_slice()));
+    drop(came);
     Ok(())
 }
 
@@ -227,7 +245,9 @@ fn each_failing_write_leaves_a_prefix(rt: HostRuntime) -> Result<(), Fail> {
 fn each_prefix_of_an_input_runs_or_is_refused(rt: HostRuntime) -> Result<(), Fail> {
     for len in 0..=FIRST.len() {
         let came = scheduled(rt.alloc(), &FIRST[..len])?;
-        assert!(rt; matches!(came.status, 0 | 2 | 3), "at {len} bytes");
+        let status = came.status;
+        drop(came);
+        assert!(rt; matches!(status, 0 | 2 | 3), "at {len} bytes");
     }
     Ok(())
 }

@@ -38,7 +38,10 @@ fn outcome_of(alloc: Global, setting: &Line) -> Result<Outcome, NoMemory> {
     input.extend_from_slice(setting.as_slice())?;
     input.extend_from_slice(ROWS)?;
     let mut sink = sink(alloc, 0)?;
-    call(alloc, "flatflash schedule", &input, 0, &mut sink)
+    let outcome = call(alloc, "flatflash schedule", &input, 0, &mut sink);
+    drop(sink);
+    drop(input);
+    outcome
 }
 
 fn cut_at(number: u32, mask: u32) -> Line {
@@ -157,7 +160,10 @@ fn are_good(alloc: Global, sessions: &[Session]) -> Result<bool, NoMemory> {
 /// Whether the rows run to an end that may be, with one more line of settings.
 fn runs_well(alloc: Global, setting: &Line) -> Result<bool, NoMemory> {
     let outcome = outcome_of(alloc, setting)?;
-    Ok(matches!(outcome.status, 0 | 7) && are_good(alloc, &outcome.sessions)?)
+    let ends = matches!(outcome.status, 0 | 7);
+    let good = are_good(alloc, &outcome.sessions);
+    drop(outcome);
+    Ok(ends && good?)
 }
 
 #[test]

@@ -109,7 +109,9 @@ fn has(text: &[u8], part: &[u8]) -> bool {
 /// Whether a text has the end of the text of a session.
 fn has_ending(alloc: Global, text: &[u8], session: u32, kept: u32) -> Result<bool, AllocError> {
     let ending = ending(alloc, session.min(2), kept)?;
-    Ok(has(text, &ending))
+    let has = has(text, &ending);
+    drop(ending);
+    Ok(has)
 }
 
 fn device_lines(sessions: &[Session], session: usize) -> Option<u64> {
@@ -129,7 +131,10 @@ fn run(alloc: Global, sink: &mut MemorySink) -> Result<(u8, [Option<u64>; 4]), N
         device_lines(sessions, 2),
         device_lines(sessions, 3),
     ];
-    Ok((outcome.status, lines))
+    let status = outcome.status;
+    drop(outcome);
+    drop(input);
+    Ok((status, lines))
 }
 
 #[test]
