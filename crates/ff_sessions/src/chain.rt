@@ -156,8 +156,10 @@ fn next_session<T: Tune + Drop, E: Pick + Drop>(
 {
     let Open { core, at } = running;
     let Ran { lost, stop } = run_session(core, rows, at);
-    let closed = close(alloc, lost, geometry)?;
-    go_on(alloc, closed, stop, rows, geometry)
+    match close(alloc, lost, geometry) {
+        Ok(closed) => go_on(alloc, closed, stop, rows, geometry),
+        Err(NoMemory) => Err(NoMemory),
+    }
 }
 
 /// Makes the rows of a trace in one session after another: the first starts from nothing, each ends by a loss of power

@@ -35,10 +35,10 @@ pub go_on-requires-clause-parts : goal.go_on-requires-clause-parts
 go_on-requires-clause-parts g c =
     let core = c.args.running.core in
     parts_of (setup_in core) (start_of core) c.args.rows.now c.args.running.at c.run_session-lost.result.stop
-    c.run_session-lost.result.lost c.args.geometry.now c.in_ok-closed.closed c.run_session-lost.ensures c.in_ok-closed.ensures
+    c.run_session-lost.result.lost c.args.geometry.now c.in-Ok.closed c.run_session-lost.ensures c.in-Ok.ensures
 
-pub returns : goal.returns
-returns g c =
+pub returns-in-Ok : goal.returns-in-Ok
+returns-in-Ok g c =
     ok_step c.args.rows.now c.args.running c.args.geometry.now c.run_session-lost.result.stop c.run_session-lost.result.lost
-    c.in_ok-closed.closed c.go_on.result c.requires.geometry c.requires.may_run c.run_session-lost.ensures c.in_ok-closed.ensures
+    c.in-Ok.closed c.go_on.result c.requires.geometry c.requires.may_run c.run_session-lost.ensures c.in-Ok.ensures
     c.go_on.ensures
