@@ -1,5 +1,5 @@
 use Rattle.std.proofs.Common.{◌≡◌, ◌≤◌, ◌+◌, length}
-use Rattle.std.specs.Prelude.{vec_capacity, vec_len}
+use Rattle.std.specs.Prelude.{vec_capacity}
 use Rattle.std.specs.Io.KnownBytes.{Consumes}
 use Rattle.ff_input.specs.Input.{chunk_size, input_limit}
 use Rattle.ff_input.proofs.input_bytes.read_into.Given as goal
