@@ -8,7 +8,7 @@ use Rattle.ff_frames.specs.Frame.{free_frame, given_frame}
 use Rattle.ff_frames.specs.Frames.{IsNoneFree, frame_at, free_count}
 use Rattle.ff_frames.specs.declared.frame.Frame.{Frame}
 
-in_use : (page : Option PageNo) → page ≢ None → (let one : ℕ = 1 in let nothing : ℕ = 0 in cond (is_none page) one nothing ≡ nothing)
+pub in_use : (page : Option PageNo) → page ≢ None → (let one : ℕ = 1 in let nothing : ℕ = 0 in cond (is_none page) one nothing ≡ nothing)
 in_use None used = absurd (used refl)
 in_use (Some page) used = refl
 
@@ -21,7 +21,7 @@ free-below frames frame within used =
     let before : weight (frame_at frames frame) ≡ 0 = in_use (frame_at frames frame).page used in
     omega (arith, before, sum_by-set weight frames frame new free_frame within, count_by-le-length (λ (f : Frame). is_none f.page) (set frames frame new), length-set frames frame new)
 
-weight-free : (page : Option PageNo) → page ≡ None → (let one : ℕ = 1 in let nothing : ℕ = 0 in cond (is_none page) one nothing ≡ one)
+pub weight-free : (page : Option PageNo) → page ≡ None → (let one : ℕ = 1 in let nothing : ℕ = 0 in cond (is_none page) one nothing ≡ one)
 weight-free None free = refl
 weight-free (Some page) free = absurd (none-some page (sym free))
 

@@ -1,3 +1,4 @@
 pub mod FreeCount
 pub mod FreshFrames
+pub mod Replaced
 pub mod Unused
