@@ -1,5 +1,5 @@
 -- A page of the victim is read, and its copy is programmed.
-use Rattle.std.proofs.Common.{◌≡◌, ◌≢◌, ◌<◌, ◌+◌, ◌*◌, ◌/◌, ◌%◌, ℕ, List, length, Some, None, refl, sym, ap, subst, ◌∙◌, arith}
+use Rattle.std.proofs.Common.{◌≡◌, ◌≢◌, ◌<◌, ◌+◌, ◌*◌, ◌/◌, ◌%◌, ◌^◌, ℕ, List, length, Some, None, refl, sym, ap, subst, ◌∙◌, arith}
 use Rattle.std.specs.Prelude.{Result, Ok, Err}
 use Rattle.std.proofs.lemmas.Option.{same_Some}
 use Rattle.ff_base.specs.declared.numbers.PageNo.{PageNo}
@@ -249,6 +249,25 @@ place_of_copy w job at ready b small is =
           ∙ write_place_blank per w.table w.flash.cells w.places job.into.0 ready.live.tabled ready.fits.cells
           b.held.is.in_range small (held_not_waiting (block_at w.table job.into.0).state b.held.is.state);
     }
+
+-- where the next copy goes, worked out from the numbers at hand
+pub next_place_is : (w : World) (job : Job) (original : Original) (per next : ℕ) → IsCollectorReady w
+    → w.gc.phase ≡ Programming job original → per ≡ w.gc.per_block → next ≡ (block_at w.table job.into.0).next
+    → next < per → IsPlaceOfCopy w job (job.into.0 * per + next)
+next_place_is w job original per next ready phase same is small =
+    place_of_copy w job (job.into.0 * per + next) ready (at_phase w (Programming job original) ready phase).copying.blocks
+    (omega arith)
+    (ap (λ n. job.into.0 * n + next) same ∙ ap (λ n. job.into.0 * w.gc.per_block + n) is)
+
+-- its number has 32 bits
+pub next_place_small : (w : World) (job : Job) (original : Original) (per next : ℕ) → IsCollectorReady w
+    → w.gc.phase ≡ Programming job original → per ≡ w.gc.per_block → next ≡ (block_at w.table job.into.0).next
+    → next < per → job.into.0 * per + next < 2 ^ 32
+next_place_small w job original per next ready phase same is small =
+    let within = (next_place_is w job original per next ready phase same is small).within in
+    let few = ready.fits.cells in
+    let cells = ready.fits.small in
+    omega arith
 
 advanced_tabled : (old new : World) (job : Job) (at : ℕ) (bytes : List ℕ) (spare : Spare)
     (result : Result (Unit {0}) FlashStop) → IsCollectorReady old → AreBlocks old.table job

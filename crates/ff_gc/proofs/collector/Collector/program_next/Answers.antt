@@ -1,6 +1,6 @@
 use Rattle.std.proofs.Common.{◌+◌, ◌*◌, ap, ◌∙◌, arith}
 use Rattle.ff_space.specs.BlockTable.{block_at}
-use Rattle.ff_gc.proofs.PageCopies.{at_phase, place_of_copy}
+use Rattle.ff_gc.proofs.PageCopies.{at_phase, next_place_is, next_place_small}
 use Rattle.ff_gc.specs.Collector.{CollectorView}
 use Rattle.ff_gc.specs.Steps.{full, programs}
 use Rattle.ff_gc.specs.World.{world_of}
@@ -10,13 +10,7 @@ use Rattle.ff_gc.proofs.collector.Collector.program_next.Goals as goal
 pub program_copy-requires-clause-erased : goal.program_copy-requires-clause-erased
 program_copy-requires-clause-erased g c =
     let w = world_of c.args.self.now (g.F.Flash.state c.args.flash.now) c.args.space.now c.args.map.now c.args.counts.now in
-    let p = at_phase w (Programming c.args.job c.args.original) c.requires.ready c.requires.phase in
-    let per = ap (λ (v : CollectorView). v.per_block) c.self.view_is in
-    let next = c.next-next.ensures in
-    let below = c.if-next-self.true in
-    (place_of_copy w c.args.job _ c.requires.ready p.copying.blocks (omega arith)
-    (ap (λ n. c.args.job.into.0 * c.self.inside.per_block + n) next
-    ∙ ap (λ n. c.args.job.into.0 * n + (block_at c.args.space.now c.args.job.into.0).next) per)).blank
+    (next_place_is w c.args.job c.args.original _ _ c.requires.ready c.requires.phase (ap (λ (v : CollectorView). v.per_block) c.self.view_is) c.next-next.ensures c.if-next-self.true).blank
 
 pub returns : goal.returns
 returns g c =
@@ -33,32 +27,12 @@ next-next-requires g c =
 pub overflow_mul-at : goal.overflow_mul-at
 overflow_mul-at g c =
     let w = world_of c.args.self.now (g.F.Flash.state c.args.flash.now) c.args.space.now c.args.map.now c.args.counts.now in
-    let p = at_phase w (Programming c.args.job c.args.original) c.requires.ready c.requires.phase in
-    let per = ap (λ (v : CollectorView). v.per_block) c.self.view_is in
-    let next = c.next-next.ensures in
-    let below = c.if-next-self.true in
-    let place = place_of_copy w c.args.job _ c.requires.ready p.copying.blocks (omega arith)
-    (ap (λ n. c.args.job.into.0 * c.self.inside.per_block + n) next
-    ∙ ap (λ n. c.args.job.into.0 * n + (block_at c.args.space.now c.args.job.into.0).next) per) in
-    let within = place.within in
-    let cells = c.requires.ready.fits.cells in
-    let small = c.requires.ready.fits.small in
-    omega arith
+    omega (arith, next_place_small w c.args.job c.args.original _ _ c.requires.ready c.requires.phase (ap (λ (v : CollectorView). v.per_block) c.self.view_is) c.next-next.ensures c.if-next-self.true)
 
 pub overflow_add-at : goal.overflow_add-at
 overflow_add-at g c =
     let w = world_of c.args.self.now (g.F.Flash.state c.args.flash.now) c.args.space.now c.args.map.now c.args.counts.now in
-    let p = at_phase w (Programming c.args.job c.args.original) c.requires.ready c.requires.phase in
-    let per = ap (λ (v : CollectorView). v.per_block) c.self.view_is in
-    let next = c.next-next.ensures in
-    let below = c.if-next-self.true in
-    let place = place_of_copy w c.args.job _ c.requires.ready p.copying.blocks (omega arith)
-    (ap (λ n. c.args.job.into.0 * c.self.inside.per_block + n) next
-    ∙ ap (λ n. c.args.job.into.0 * n + (block_at c.args.space.now c.args.job.into.0).next) per) in
-    let within = place.within in
-    let cells = c.requires.ready.fits.cells in
-    let small = c.requires.ready.fits.small in
-    omega arith
+    omega (arith, next_place_small w c.args.job c.args.original _ _ c.requires.ready c.requires.phase (ap (λ (v : CollectorView). v.per_block) c.self.view_is) c.next-next.ensures c.if-next-self.true)
 
 pub program_copy-requires-clause-life : goal.program_copy-requires-clause-life
 program_copy-requires-clause-life g c = c.requires.life
@@ -82,17 +56,7 @@ program_copy-requires-clause-at g c =
 pub program_copy-requires-clause-place : goal.program_copy-requires-clause-place
 program_copy-requires-clause-place g c =
     let w = world_of c.args.self.now (g.F.Flash.state c.args.flash.now) c.args.space.now c.args.map.now c.args.counts.now in
-    let p = at_phase w (Programming c.args.job c.args.original) c.requires.ready c.requires.phase in
-    let per = ap (λ (v : CollectorView). v.per_block) c.self.view_is in
-    let next = c.next-next.ensures in
-    let below = c.if-next-self.true in
-    let place = place_of_copy w c.args.job _ c.requires.ready p.copying.blocks (omega arith)
-    (ap (λ n. c.args.job.into.0 * c.self.inside.per_block + n) next
-    ∙ ap (λ n. c.args.job.into.0 * n + (block_at c.args.space.now c.args.job.into.0).next) per) in
-    let within = place.within in
-    let cells = c.requires.ready.fits.cells in
-    let small = c.requires.ready.fits.small in
-    within
+    (next_place_is w c.args.job c.args.original _ _ c.requires.ready c.requires.phase (ap (λ (v : CollectorView). v.per_block) c.self.view_is) c.next-next.ensures c.if-next-self.true).within
 
 pub returns-then-next-self : goal.returns-then-next-self
 returns-then-next-self g c =
