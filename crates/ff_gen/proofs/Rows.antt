@@ -1,11 +1,12 @@
 -- The rows so far, and those that are left.
-use Rattle.std.proofs.Common.{◌≡◌, ◌∙◌, ◌+◌, ◌-◌, ◌<◌, ◌≤◌, ℕ, zero, suc, List, [], ◌∷◌, ◌++◌, refl, sym, ap, arith}
+use Rattle.std.proofs.Common.{◌≡◌, ◌∙◌, ◌+◌, ◌-◌, ◌%◌, ◌<◌, ◌≤◌, ℕ, zero, suc, List, [], ◌∷◌, ◌++◌, refl, sym, ap, arith}
 use Rattle.std.specs.List.{enumerate_from, flat_map}
 use Rattle.std.proofs.lemmas.List.{append-nil, append_assoc}
 use Rattle.ff_model.specs.declared.op.Op.{Op}
 use Rattle.ff_gen.specs.Calls.{call_from, calls_from}
-use Rattle.ff_gen.specs.Generated.{generated, mark_rows, rows_at}
+use Rattle.ff_gen.specs.Generated.{generated, mark_rows, rows_at, turns_behind}
 use Rattle.ff_trace.specs.declared.row.Row.{Row}
+use Rattle.ff_trace.specs.declared.row.Row.TheVariants.{Call}
 
 -- the rows of so many calls from a number on, drawn from a state
 abbrev pub rows_left : ℕ → ℕ → ℕ → List Row
@@ -23,6 +24,14 @@ calls_from-more zero left state more = absurd (omega arith)
 calls_from-more (suc count) left state more =
     let same : count ≡ left = omega arith in
     ap (λ (n : ℕ). (call_from state).op ∷ calls_from n (call_from state).state) same
+
+-- a call and the turns behind it are the rows of its number
+pub call-and-turns : (rows called new : List Row) (row : Row) (number : ℕ) (op : Op) → called ≡ rows ++ row ∷ []
+    → row ≡ Call (record { 0 = number % 4 }) op → new ≡ called ++ turns_behind number
+    → new ≡ rows ++ rows_at (number, op)
+call-and-turns rows called new row number op pushed is turned =
+    turned ∙ ap (λ (start : List Row). start ++ turns_behind number) pushed
+    ∙ append_assoc rows (row ∷ []) (turns_behind number) ∙ ap (λ (r : Row). rows ++ r ∷ turns_behind number) is
 
 -- so many rows, and behind them those that are left, are all rows of the number
 pub record HasRows (number at state : ℕ) (rows : List Row) : Type 0 where

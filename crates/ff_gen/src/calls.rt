@@ -1,6 +1,9 @@
 // The calls that are drawn.
 ghost use Rattle.std.specs.Prelude.{◌≡◌, ◌<◌};
+ghost use Rattle.std.specs.Int.{to_be_bytes, w64};
+ghost use Rattle.ff_model.specs.declared.op.Op.TheVariants.{Store};
 ghost use Rattle.ff_gen.specs.Calls.{access_from, address_of, call_from, call_of_kind, drawn_page};
+ghost use Rattle.ff_gen.specs.Draws.{next_state};
 
 use crate::draws::Draws;
 use ff_model::{Op, Piece};
@@ -35,11 +38,18 @@ fn access(draws: &mut Draws, kind: u64) -> Op
     if kind <= 8 {
         Op::Load { at, len: 8 }
     } else {
-        let _ = draws.draw();
-        Op::Store {
-            at,
-            bytes: Piece::from_slice(&draws.state.to_be_bytes()),
-        }
+        store(draws, at)
+    }
+}
+
+fn store(draws: &mut Draws, at: u32) -> Op
+    ensures op { result ≡ Store at (to_be_bytes w64 (next_state draws.old.state)) }
+    ensures state { draws.new.state ≡ next_state draws.old.state }
+{
+    let _ = draws.draw();
+    Op::Store {
+        at,
+        bytes: Piece::from_slice(&draws.state.to_be_bytes()),
     }
 }
 

@@ -1,7 +1,8 @@
 // The rows that a number makes.
-ghost use Rattle.std.specs.Prelude.{◌≡◌, ◌<◌, ◌++◌, ◌∷◌, [], IfOk, OnOk};
+ghost use Rattle.std.specs.Prelude.{◌≡◌, ◌<◌, ◌%◌, ◌++◌, ◌∷◌, [], IfOk, OnOk};
 ghost use Rattle.ff_gen.specs.Calls.{call_from};
 ghost use Rattle.ff_gen.specs.Generated.{generated, mark_row, mark_rows, rows_at, turn_rows, turns_behind};
+ghost use Rattle.ff_trace.specs.declared.row.Row.TheVariants.{Call, Turns};
 
 use crate::calls::call;
 use crate::draws::Draws;
@@ -35,11 +36,10 @@ pub fn generate(alloc: Global, number: u32) -> Result<Vec<Row>, NoMemory>
 fn push_marks(rows: &mut Vec<Row>) -> Result<(), NoMemory>
     ensures { OnOk result (rows.new.items ≡ rows.old.items ++ mark_rows) }
 {
-    rows.push(mark_row(0))?;
-    rows.push(mark_row(1))?;
-    rows.push(mark_row(2))?;
-    rows.push(mark_row(3))?;
-    Ok(())
+    push_row(rows, mark_row(0))?;
+    push_row(rows, mark_row(1))?;
+    push_row(rows, mark_row(2))?;
+    push_row(rows, mark_row(3))
 }
 
 fn mark_row(caller: u16) -> Row
@@ -61,11 +61,19 @@ fn push_rows(rows: &mut Vec<Row>, number: u32, draws: &mut Draws) -> Result<(), 
         (rows.new.items ≡ rows.old.items ++ rows_at (number, (call_from draws.old.state).op)) }
     ensures state { OnOk result (draws.new.state ≡ (call_from draws.old.state).state) }
 {
-    rows.push(Row::Call {
+    let row = call_row(number, draws);
+    push_row(rows, row)?;
+    push_turns_behind(rows, number)
+}
+
+fn call_row(number: u32, draws: &mut Draws) -> Row
+    ensures row { result ≡ Call (record { 0 = number % 4 }) (call_from draws.old.state).op }
+    ensures state { draws.new.state ≡ (call_from draws.old.state).state }
+{
+    Row::Call {
         caller: Caller((number % 4) as u16),
         op: call(draws),
-    })?;
-    push_turns_behind(rows, number)
+    }
 }
 
 fn push_turns_behind(rows: &mut Vec<Row>, number: u32) -> Result<(), NoMemory>
@@ -88,8 +96,13 @@ fn push_turns(rows: &mut Vec<Row>) -> Result<(), NoMemory>
 }
 
 fn push_turn(rows: &mut Vec<Row>, kind: Kind, count: u32) -> Result<(), NoMemory>
-    ensures { OnOk result (rows.new.items ≡ rows.old.items ++ Row.Turns kind count ∷ []) }
+    ensures { OnOk result (rows.new.items ≡ rows.old.items ++ Turns kind count ∷ []) }
 {
-    rows.push(Row::Turns { kind, count })?;
-    Ok(())
+    push_row(rows, Row::Turns { kind, count })
+}
+
+fn push_row(rows: &mut Vec<Row>, row: Row) -> Result<(), NoMemory>
+    ensures { OnOk result (rows.new.items ≡ rows.old.items ++ row ∷ []) }
+{
+    Ok(rows.push(row)?)
 }
