@@ -5,12 +5,6 @@ use Rattle.ff_sessions.specs.Making.{HasRoomFor}
 use Rattle.ff_sessions.specs.Stops.{items_from}
 use Rattle.ff_sessions.proofs.chain.open_behind.Goals as goal
 
-pub open_next-requires-clause-geometry : goal.open_next-requires-clause-geometry
-open_next-requires-clause-geometry g c = c.requires.geometry
-
-pub open_next-requires-clause-parts : goal.open_next-requires-clause-parts
-open_next-requires-clause-parts g c = rw c.events-event.ensures c.requires.parts.resumes
-
 pub returns-in-Ok-clause-next : goal.returns-in-Ok-clause-next
 returns-in-Ok-clause-next g c =
     let rows = c.args.rows.now in
