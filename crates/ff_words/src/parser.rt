@@ -1,6 +1,6 @@
 // The program's command line, told to `clap`.
-ghost use Rattle.std.specs.Prelude.{◌≡◌, IfOk, codes};
-ghost use Rattle.clap.specs.Words.{App, app_of, new_app, with_subcommand};
+ghost use Rattle.std.specs.Prelude.{◌≡◌, IfOk};
+ghost use Rattle.clap.specs.Words.{App, app_of, with_subcommand};
 ghost use Rattle.ff_words.specs.CommandLine.{IsToldAs, flatflash, load_app, named};
 
 use clap::{Arg, ArgAction, Command};
