@@ -6,6 +6,7 @@ ghost use Rattle.ff_gen.specs.Calls.{access_from, address_of, call_from, call_of
 ghost use Rattle.ff_gen.specs.Draws.{next_state};
 
 use crate::draws::Draws;
+use ff_base::{LINE_BYTES, PAGE_BYTES, PAGE_LINES};
 use ff_model::{Op, Piece};
 
 /// Draws the next call.
@@ -56,7 +57,7 @@ fn store(draws: &mut Draws, at: u32) -> Op
 fn address(page: u64, line: u64) -> u32
     ensures { result ≡ address_of page line }
 {
-    (drawn_page(page) * 4096 + line % 64 * 64) as u32
+    (drawn_page(page) * PAGE_BYTES as u64 + line % PAGE_LINES as u64 * LINE_BYTES as u64) as u32
 }
 
 fn drawn_page(number: u64) -> u64
