@@ -1,6 +1,6 @@
 use Rattle.std.proofs.Common.{◌≡◌, ℕ, subst, arith}
 use Rattle.ff_core.proofs.ResumeBorn.{IsBearing, bearing-done}
-use Rattle.ff_core.proofs.resume.bear_held.Goals as goal
+use Rattle.ff_core.proofs.resume.page_table.bear_held.Goals as goal
 
 pub returns : goal.returns
 returns c =

@@ -1,5 +1,5 @@
 use Rattle.ff_core.proofs.ResumeDevice.{resumed_begins}
-use Rattle.ff_core.proofs.resume.make_device.Goals as goal
+use Rattle.ff_core.proofs.resume.made.make_device.Goals as goal
 
 pub over-requires : goal.over-requires
 over-requires g c =
