@@ -9,7 +9,7 @@ pub count-born : (born : List Bool) (page : ℕ) (read : Bool) → page < length
 count-born born page read within is-read unborn =
     let weight : Bool → ℕ = λ b. cond b 1 0 in
     let before : weight (get_or born page false) ≡ 0 =
-        ap weight (sym (get_or_read born page read within is-read false) ∙ unborn) in
+    ap weight (sym (get_or_read born page read within is-read false) ∙ unborn) in
     omega (arith, before, sum_by-set weight born page true false within)
 
 -- a page that was read as unborn leaves room for one more

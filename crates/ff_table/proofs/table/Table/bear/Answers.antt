@@ -18,12 +18,12 @@ invariant_of-self c =
     let within : c.args.page.0 < length born = omega (arith, c.self.invariant.sound.born_or_not) in
     let one-more = count-born born c.args.page.0 c.index.result.now within c.index.ensures c.if-not-index.true in
     record {
-        sound = record {
-            marked = c.self.invariant.sound.marked;
-            born_or_not = length-set born c.args.page.0 true ∙ c.self.invariant.sound.born_or_not;
-            few = c.self.invariant.sound.few;
-        };
-        counted = ap (λ k. k + 1) c.self.invariant.counted ∙ sym one-more;
+      sound = record {
+        marked = c.self.invariant.sound.marked;
+        born_or_not = length-set born c.args.page.0 true ∙ c.self.invariant.sound.born_or_not;
+        few = c.self.invariant.sound.few;
+      };
+      counted = ap (λ k. k + 1) c.self.invariant.counted ∙ sym one-more;
     }
 
 pub returns-then-not-index : goal.returns-then-not-index
